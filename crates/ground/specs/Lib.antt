@@ -1,0 +1,5 @@
+pub mod Tests
+pub mod Least
+pub mod Sums
+pub mod Stands
+pub mod Stores
