@@ -1,0 +1,5 @@
+pub mod LabelLaws
+pub mod RuleLaws
+pub mod SaysLaws
+pub mod GivesLaws
+pub mod RowLaws
