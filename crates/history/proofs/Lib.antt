@@ -1,0 +1,9 @@
+pub mod Chains
+pub mod Tree
+pub mod RuledLaws
+pub mod SoundLaws
+pub mod OrderLaws
+pub mod ChangeLaws
+pub mod ComputedLaws
+pub mod VerdictLaws
+pub mod ExistsLaws

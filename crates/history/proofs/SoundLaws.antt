@@ -1,0 +1,70 @@
+-- Demand 3 at an instant: no fault holds exactly if its sentence does. Assumes nothing.
+use mathlib.Core.Path.{_≡_, _∙_}
+use mathlib.Core.Logic.{_≢_, inl, inr, ⊎-elim, _↔_}
+use Prim.Native.Nat.{ℕ, _≤_}
+use native.Mathlib.Decide.{ℕ-discrete, decLe}
+use Rattle.history.specs.History.{History, Ruled}
+use Rattle.history.specs.Faults.{Into, Touched, OneChain, Gap, Here, overlap, gap, outside, cycle, late, dangling}
+use Rattle.history.specs.Sound.{Missing, Sound}
+use Rattle.history.specs.Verdict.{Faultless}
+use Rattle.history.proofs.Chains.{into-dec}
+use Rattle.history.proofs.Tree.{Tree, tree}
+use Rattle.history.proofs.RuledLaws.{ruled-below}
+
+module _ (H : History) (t : ℕ) where
+  -- whether a node is present can be decided
+  pub here-dec : (n : ℕ) → Dec (Here H t n)
+  here-dec n = go (ℕ-discrete n 0) (decLe (H .start) t) (into-dec (H .edges) (H .edge) t n)
+    where
+      go : Dec (n ≡ 0) → Dec (H .start ≤ t) → Dec ((i : ℕ) × Into (H .edges) (H .edge) t n i) → Dec (Here H t n)
+      go (yes e) (yes s) d = yes (inl (e, s))
+      go (yes e) (no s) d = no (⊎-elim (λ p. s (p .1)) (λ p. p .0 e))
+      go (no e) s (yes i) = yes (inr (e, i))
+      go (no e) s (no i) = no (⊎-elim (λ p. e (p .0)) (λ p. i (p .1)))
+
+  not-away : (n : ℕ) → ((Here H t n → ⊥) → ⊥) → Here H t n
+  not-away n f = go (here-dec n)
+    where
+      go : Dec (Here H t n) → Here H t n
+      go (yes h) = h
+      go (no h) = absurd (f h)
+
+  -- a node missing between two stays has a GAP, and the other way round
+  gap-missing : (n : ℕ) → Gap (H .edges) (H .edge) t n → Missing H t n
+  gap-missing n (ne, none, a, b) = (⊎-elim (λ p. ne (p .0)) (λ p. none (p .1 .0) (p .1 .1)), a, b)
+
+  missing-gap : Ruled H → (n : ℕ) → Missing H t n → Gap (H .edges) (H .edge) t n
+  missing-gap r n (away, (i, a), b) = (ne, λ j p. away (inr (ne, (j, p))), (i, a), b)
+    where
+      ne : n ≢ 0
+      ne e = r .edge-ruled i (a .row) .not-root (a .into ∙ e)
+
+  module _ (r : Ruled H) where
+    tree-tells : Tree (H .edges) (H .edge) t ↔ ((n : ℕ) → Touched (H .edges) (H .edge) t n
+        → OneChain (H .edges) (H .edge) t 0 n)
+    tree-tells = tree (H .edges) (H .edge) t (H .nodes) (ruled-below H r)
+
+    faultless-sound : Faultless H t → Sound H t
+    faultless-sound f =
+        record {
+          reached =
+              tree-tells .0 (record {
+                no-overlap = λ n x. f _ (overlap x);
+                no-outside = λ n x. f _
+                    (outside x);
+                no-cycle = λ n x. f _ (cycle x);
+              });
+          unbroken = λ n x. f _ (gap (missing-gap r n x));
+          joined = λ k x. (not-away _ (λ a. f _ (late (x, a))), not-away _ (λ a. f _ (dangling (x, a))));
+        }
+
+    sound-faultless : Sound H t → Faultless H t
+    sound-faultless s f (overlap x) = tree-tells .1 (s .reached) .no-overlap _ x
+    sound-faultless s f (gap x) = s .unbroken _ (gap-missing _ x)
+    sound-faultless s f (outside x) = tree-tells .1 (s .reached) .no-outside _ x
+    sound-faultless s f (cycle x) = tree-tells .1 (s .reached) .no-cycle _ x
+    sound-faultless s f (late x) = x .1 (s .joined _ (x .0) .0)
+    sound-faultless s f (dangling x) = x .1 (s .joined _ (x .0) .1)
+
+    pub sound : Faultless H t ↔ Sound H t
+    sound = (faultless-sound, sound-faultless)

@@ -1,0 +1,56 @@
+-- Two verdicts coincide; and demand 3 for the whole of a history. Assumes nothing.
+use mathlib.Core.Path.{_≡_, refl, sym, ap, ap₂, subst}
+use mathlib.Core.Logic.{_↔_}
+use Prim.Native.Nat.{ℕ, _≤_, _<_}
+use native.Mathlib.Nat.{le-antisymm}
+use Rattle.ground.proofs.LeastLaws.{not-lt→le}
+use Rattle.answers.specs.declared.Fault.{Fault}
+use Rattle.answers.specs.declared.Answer.{Answer}
+use Rattle.answers.specs.declared.Answer.the-variants.{Faulty}
+use Rattle.answers.specs.Refusals.{passed}
+use Rattle.tables.specs.Instants.{Now}
+use Rattle.history.specs.History.{History, Ruled}
+use Rattle.history.specs.Faults.{Holds}
+use Rattle.history.specs.Sound.{Sound}
+use Rattle.history.specs.Verdict.{First, Faultless, Earliest, Verdict, accepted, refused, Names, none, first}
+use Rattle.history.proofs.OrderLaws.{first-unique}
+use Rattle.history.proofs.SoundLaws.{sound}
+
+-- two verdicts for one history coincide, and so do two answers that name the first fault at an instant
+module _ (H : History) where
+  same-instant : (t s : ℕ) (f g : Fault) → Earliest H t f → Earliest H s g → t ≤ s
+  same-instant t s f g a b = not-lt→le (λ h. a .earliest s h g (b .fault .holds))
+
+  same : (t s : ℕ) (f g : Fault) → Earliest H t f → Earliest H s g → Faulty t f ≡ Faulty s g
+  same t s f g a b =
+      let e : t ≡ s = le-antisymm (same-instant t s f g a b) (same-instant s t g f b a) in
+      ap₂ Faulty e (first-unique (Holds H t) f g (a .fault) (subst (λ x. First (Holds H x) g) (sym e) (b .fault)))
+
+  pub verdict-unique : {x y : Answer} → Verdict H x → Verdict H y → x ≡ y
+  verdict-unique (accepted n) (accepted k) = refl
+  verdict-unique (accepted n) (refused b) = absurd (n _ (b .instant) _ (b .fault .holds))
+  verdict-unique (refused a) (accepted k) = absurd (k _ (a .instant) _ (a .fault .holds))
+  verdict-unique (refused a) (refused b) = same _ _ _ _ a b
+
+pub names-unique : (F : Fault → Type 0) (t : ℕ) {x y : Answer} → Names F t x → Names F t y → x ≡ y
+names-unique F t (none n) (none k) = refl
+names-unique F t (none n) (first b) = absurd (n _ (b .holds))
+names-unique F t (first a) (none k) = absurd (k _ (a .holds))
+names-unique F t (first a) (first b) = ap (Faulty t) (first-unique F _ _ a b)
+
+-- demand 3: accepted exactly if the sentence holds at every instant; otherwise the earliest instant at which it fails
+module _ (H : History) (r : Ruled H) where
+  faultless-of : Verdict H passed → (t : ℕ) → t ≤ Now → Faultless H t
+  faultless-of (accepted n) = n
+
+  pub accepted-sound : Verdict H passed ↔ ((t : ℕ) → t ≤ Now → Sound H t)
+  accepted-sound = (λ v t h. sound H t r .0 (faultless-of v t h), λ s. accepted (λ t h. sound H t r .1 (s t h)))
+
+  pub earliest-of : {t : ℕ} {f : Fault} → Verdict H (Faulty t f) → Earliest H t f
+  earliest-of (refused e) = e
+
+  pub refused-unsound : {t : ℕ} {f : Fault} → Verdict H (Faulty t f)
+      → (Sound H t → ⊥) × ((s : ℕ) → s < t → Sound H s) × First (Holds H t) f
+  refused-unsound {t} {f} v =
+      let e = earliest-of v in
+      (λ s. sound H t r .1 s f (e .fault .holds), λ s h. sound H s r .0 (e .earliest s h), e .fault)

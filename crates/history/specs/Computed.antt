@@ -1,0 +1,117 @@
+-- The faults and the verdict, computed. That they are what the relations say is proved in proofs/ComputedLaws.antt and
+-- proofs/VerdictLaws.antt.
+--   isInto .. dangles   the tests of the lines of the table
+--   holds               the table
+--   faultsSay           the first fault at t as an answer; shownSay: with GAP set aside
+--   instants            the change instants, listed
+--   verdict             the faults part of check's answer
+-- Assumes nothing.
+use mathlib.Core.Bool.{Bool, not, cond, _&&_, _||_}
+use mathlib.Core.List.{List, [], _∷_, _++_}
+use Prim.Native.Nat.{ℕ, zero, suc, _+_, min}
+use lib.Dec.{leb, ltb, eqb}
+use Rattle.ground.specs.Least.{any}
+use Rattle.answers.specs.declared.Fault.{Fault}
+use Rattle.answers.specs.declared.Fault.the-variants.{Overlap, Gap, Outside, Cycle, Late, Dangling}
+use Rattle.answers.specs.declared.Answer.{Answer}
+use Rattle.answers.specs.declared.Answer.the-variants.{Faulty}
+use Rattle.answers.specs.Numbers.{refuses}
+use Rattle.answers.specs.Refusals.{passed, _⨾_}
+use Rattle.tables.specs.Instants.{Now, during}
+use Rattle.tables.specs.Rows.{Edge}
+use Rattle.tables.specs.Says.{smallest}
+use Rattle.history.specs.History.{History}
+
+-- what a `let` binds waits: a search stops at the first that passes
+module _ (m : ℕ) (E : ℕ → Edge) (t : ℕ) where
+  abbrev pub isInto : ℕ → ℕ → Bool
+  isInto n i = eqb (E i .child) n && during (E i .from) (E i .to) t
+
+  abbrev pub isOut : ℕ → ℕ → Bool
+  isOut n i = eqb (E i .parent) n && during (E i .from) (E i .to) t
+
+  abbrev pub hasEnded : ℕ → ℕ → Bool
+  hasEnded n i = eqb (E i .child) n && ltb (E i .to) t
+
+  abbrev pub isComing : ℕ → ℕ → Bool
+  isComing n i = eqb (E i .child) n && ltb t (E i .from)
+
+  abbrev pub isPresent : ℕ → ℕ → Bool
+  isPresent start n = eqb n 0 && leb start t || not (eqb n 0) && any (isInto n) m
+
+  -- a chain of at most k rows leads from a to b
+  abbrev pub reaches : ℕ → ℕ → ℕ → Bool
+  reaches zero a b = eqb a b
+  reaches (suc k) a b =
+      let further = any (λ i. let rest = reaches k a (E i .parent) in isInto b i && rest) m in
+      eqb a b || further
+
+  abbrev pub overlaps : ℕ → Bool
+  overlaps n = any (λ j. let sooner = any (isInto n) j in isInto n j && sooner) m
+
+  abbrev pub hasGap : ℕ → Bool
+  hasGap n = not (eqb n 0) && (not (any (isInto n) m) && (any (hasEnded n) m && any (isComing n) m))
+
+  abbrev pub isOutside : ℕ → Bool
+  isOutside n = not (eqb n 0) && (any (isOut n) m && not (any (isInto n) m))
+
+  -- a cycle through n has no more rows than there are nodes
+  abbrev pub cycles : ℕ → ℕ → Bool
+  cycles nodes n = any (λ i. let back = reaches nodes n (E i .parent) in isInto n i && back) m
+
+module _ (H : History) (t : ℕ) where
+  abbrev pub refers : ℕ → Bool
+  refers k = ltb k (H .refs) && during (H .ref k .from) (H .ref k .to) t
+
+  abbrev pub isHere : ℕ → Bool
+  isHere = isPresent (H .edges) (H .edge) t (H .start)
+
+  abbrev pub holds : Fault → Bool
+  holds (Overlap n) = overlaps (H .edges) (H .edge) t n
+  holds (Gap n) = hasGap (H .edges) (H .edge) t n
+  holds (Outside n) = isOutside (H .edges) (H .edge) t n
+  holds (Cycle n) = cycles (H .edges) (H .edge) t (H .nodes) n
+  holds (Late k) = refers k && not (isHere (H .ref k .attribute))
+  holds (Dangling k) = refers k && not (isHere (H .ref k .target))
+
+  -- one line of the table: its smallest place
+  abbrev pub line : (ℕ → Fault) → ℕ → Answer
+  line kind = smallest (λ p. Faulty t (kind p)) (λ p. holds (kind p))
+
+  unfoldable pub afterGap : Answer
+  afterGap =
+      line Outside (H .nodes)
+      ⨾ line Cycle (H .nodes)
+      ⨾ line Late (H .refs)
+      ⨾ line Dangling (H .refs)
+      ⨾ passed
+
+  unfoldable pub faultsSay : Answer
+  faultsSay = line Overlap (H .nodes) ⨾ line Gap (H .nodes) ⨾ afterGap
+
+  unfoldable pub shownSay : Answer
+  shownSay = line Overlap (H .nodes) ⨾ afterGap
+
+-- the starts of the first n labels, and the instants past their ends
+abbrev pub turns : (ℕ → ℕ) → (ℕ → ℕ) → ℕ → List ℕ
+turns from to zero = []
+turns from to (suc n) = from n ∷ ((to n + 1) ∷ turns from to n)
+
+abbrev pub instants : History → List ℕ
+instants H =
+    turns (λ i. H .edge i .from) (λ i. H .edge i .to) (H .edges)
+    ++ turns (λ k. H .ref k .from) (λ k. H .ref k .to) (H .refs)
+
+abbrev pub faulty : History → ℕ → Bool
+faulty H t = leb t Now && refuses (faultsSay H t)
+
+-- the smallest number of a list at which a test passes, or one past Now
+abbrev pub soonest : (ℕ → Bool) → List ℕ → ℕ
+soonest p [] = suc Now
+soonest p (x ∷ xs) = let rest = soonest p xs in cond (p x) (min x rest) rest
+
+abbrev pub saidAt : History → ℕ → Answer
+saidAt H t = cond (leb t Now) (faultsSay H t) passed
+
+unfoldable pub verdict : History → Answer
+verdict H = saidAt H (soonest (faulty H) (instants H))

@@ -1,0 +1,6 @@
+pub mod History
+pub mod Faults
+pub mod Sound
+pub mod Verdict
+pub mod Changes
+pub mod Computed
