@@ -1,0 +1,98 @@
+-- The bounds of a node's rows after one more row. Assumes nothing.
+use mathlib.Core.Path.{_≡_, refl, sym, ap, _∙_, subst}
+use mathlib.Core.Logic.{_⊎_, inl, inr, ⊎-elim}
+use mathlib.Core.List.{List}
+use Prim.Native.Nat.{ℕ, _+_, _≤_, _<_, min, max}
+use native.Mathlib.Decide.{ℕ-discrete, decLe}
+use native.Mathlib.Nat.{eq-or-lt-of-le}
+use native.Mathlib.Omega.{arith}
+use lib.ListN.{length, getD, set, replicate, length-set, getD-replicate, length-replicate}
+use lib.Seq.{getD-set-same, getD-set-other}
+use Rattle.ground.specs.Least.{Any}
+use Rattle.tables.specs.declared.label.Label.{Label}
+use Rattle.tables.specs.Instants.{Now, instantOf, labelOf}
+use Rattle.tables.proofs.LabelLaws.{instant-end}
+use Rattle.tables.specs.Rows.{Edge}
+use Rattle.faults.specs.Stays.{Stay, Stays}
+
+module _ (E : ℕ → Edge) (c i first last : ℕ) where
+  last-or : (k : ℕ) → k < i + 1 → (k ≡ i) ⊎ (k < i)
+  last-or k h = eq-or-lt-of-le (omega arith)
+
+  wider : (P : ℕ → Type 0) → Any P i → Any P (i + 1)
+  wider P (j, h, x) = (j, omega arith, x)
+
+  pub stay-skip : (E i .child ≡ c → ⊥) → Stay E c i first last → Stay E c (i + 1) first last
+  stay-skip f s =
+      record {
+        none-sooner =
+            λ j h e. ⊎-elim (λ q. absurd (f (subst (λ x. E x .child ≡ c) q e))) (λ l. s .none-sooner j l e)
+            (last-or j h);
+        starts = ⊎-elim inl (λ x. inr (wider _ x)) (s .starts);
+        none-later =
+            λ j h e. ⊎-elim (λ q. absurd (f (subst (λ x. E x .child ≡ c) q e))) (λ l. s .none-later j l e)
+            (last-or j h);
+        ends = ⊎-elim inl (λ x. inr (wider _ x)) (s .ends);
+      }
+
+  pub stay-take : E i .child ≡ c → Stay E c i first last → Stay E c (i + 1) (min first (E i .from)) (max last (E i .to))
+  stay-take e s =
+      record {
+        none-sooner =
+            λ j h q. ⊎-elim (λ z. rw z (omega arith)) (λ l. omega (arith, s .none-sooner j l q)) (last-or j h);
+        starts = soonest (decLe first (E i .from));
+        none-later = λ j h q. ⊎-elim (λ z. rw z (omega arith)) (λ l. omega (arith, s .none-later j l q)) (last-or j h);
+        ends = latest (decLe (E i .to) last);
+      }
+    where
+      soonest : Dec (first ≤ E i .from)
+          → (min first (E i .from) ≡ Now) ⊎ Any (λ j. (E j .child ≡ c) × (E j .from ≡ min first (E i .from))) (i + 1)
+      soonest (yes l) =
+          let q : min first (E i .from) ≡ first = omega arith in rw q (⊎-elim inl (λ x. inr (wider _ x)) (s .starts))
+      soonest (no l) = inr (i, omega arith, (e, omega arith))
+
+      latest : Dec (E i .to ≤ last)
+          → (max last (E i .to) ≡ 0) ⊎ Any (λ j. (E j .child ≡ c) × (E j .to ≡ max last (E i .to))) (i + 1)
+      latest (yes l) =
+          let q : max last (E i .to) ≡ last = omega arith in rw q (⊎-elim inl (λ x. inr (wider _ x)) (s .ends))
+      latest (no l) = inr (i, omega arith, (e, omega arith))
+
+-- both bounds of row i's child are stored anew
+pub stays-set : (E : ℕ → Edge) (i : ℕ) (first last : List ℕ) {v w : ℕ} → length first ≡ length last
+    → E i .child < length first
+    → v ≡ min (getD first (E i .child) 0) (E i .from) → w ≡ max (getD last (E i .child) 0) (E i .to)
+    → Stays E i first last → Stays E (i + 1) (set first (E i .child) v) (set last (E i .child) w)
+stays-set E i first last {v} {w} same l ev ew s c h = go (ℕ-discrete c (E i .child))
+  where
+    inside : c < length first
+    inside = omega (arith, length-set first (E i .child) v)
+
+    go : Dec (c ≡ E i .child)
+        → Stay E c (i + 1) (getD (set first (E i .child) v) c 0) (getD (set last (E i .child) w) c 0)
+    go (yes e) =
+        rw (e, getD-set-same first (E i .child) v 0 l, getD-set-same last (E i .child) w 0 (omega arith), ev, ew)
+        (stay-take E (E i .child) i (getD first (E i .child) 0) (getD last (E i .child) 0) refl (s (E i .child) l))
+    go (no e) =
+        rw (getD-set-other first (E i .child) c v 0 e, getD-set-other last (E i .child) c w 0 e)
+        (stay-skip E c i (getD first c 0) (getD last c 0) (λ q. e (sym q)) (s c inside))
+
+-- bounds that no row has changed
+pub stays-none : (E : ℕ → Edge) (n : ℕ) → Stays E 0 (replicate n Now) (replicate n 0)
+stays-none E n c h =
+    record {
+      none-sooner = λ j l. absurd (omega arith);
+      starts = inl (getD-replicate n c Now 0 (omega (arith, length-replicate n Now)));
+      none-later = λ j l. absurd (omega arith);
+      ends = inl (getD-replicate n c 0 0 (omega (arith, length-replicate n Now)));
+    }
+
+-- the same by what the code has read of row i
+pub stays-note : (E : ℕ → Edge) (i : ℕ) (first last : List ℕ) {c v w e : ℕ} {l : Label} → length first ≡ length last
+    → E i .child < length first
+    → c ≡ E i .child → l ≡ labelOf (E i .from) (E i .to) → v ≡ min (getD first c 0) (l .from) → e ≡ instantOf (l .end)
+    → w ≡ max (getD last c 0) e
+    → Stays E i first last → Stays E (i + 1) (set first c v) (set last c w)
+stays-note E i first last {c} {v} {w} {e} {l} same inside ec el ev ee ew s =
+    let q : e ≡ E i .to = ee ∙ ap (λ (x : Label). instantOf (x .end)) el ∙ instant-end (E i .to) in
+    let f : l .from ≡ E i .from = ap (λ (x : Label). x .from) el in
+    rw ec (stays-set E i first last same inside (rw (ec, f) at ev) (rw (ec, q) at ew) s)

@@ -1,0 +1,63 @@
+use denote.Ref.{now}
+use Rattle.faults.proofs.SlotLaws.{below-part}
+use borrow.Author.Needs.{needs}
+use native.Mathlib.Omega.{arith}
+use Prim.Native.Nat.{_≤_, _-_}
+use mathlib.Core.Path.{_≡_}
+use lib.ListN.{length}
+use Rattle.tables.specs.Rows.{edgeAt}
+use Rattle.faults.specs.Slots.{Slots}
+use Rattle.faults.proofs.slots.take_rows.Statement.{statement}
+use Rattle.faults.proofs.slots.take_rows.Tie as tie
+
+abbrev Inv-loop : tie.InvT-loop
+Inv-loop edges m t up₀ i₀ up i = (i ≤ m) × (length up ≡ length up₀) × Slots (edgeAt edges) t i up
+
+abbrev μ-loop : tie.MeasureT-loop
+μ-loop edges m t up₀ i₀ up i = m - i
+
+loop-holds : tie.Need-loop-holds Inv-loop μ-loop
+loop-holds c = (search needs, search needs, c .before .before .pre .1)
+
+take-row-requires : tie.Need-take-row-requires Inv-loop μ-loop
+take-row-requires c κs =
+    let s = c .before .before .before .before .before in (
+      (
+        omega arith,
+        below-part _ (edgeAt (now (s .args .edges))) _ _ _ (s .pre .0 .1) (c .before .loop-test .taken)
+            (c .before .before .loop .inv .1),
+        omega arith,
+      ),
+      c .before .before .loop .inv .2,
+    )
+
+add-i : tie.Need-add-i Inv-loop μ-loop
+add-i c = search needs
+
+loop-less : tie.Need-loop-less Inv-loop μ-loop
+loop-less c = search needs
+
+loop-again : tie.Need-loop-again Inv-loop μ-loop
+loop-again c = search needs
+
+same-length : tie.Need-same-length Inv-loop μ-loop
+same-length c = search needs
+
+returns : tie.Need-returns Inv-loop μ-loop
+returns c =
+    let e : c .before .loop .i ≡ c .before .before .before .before .args .m = omega arith in
+    rw (← e) (c .before .loop .inv .2)
+
+pub take-rows-spec : {M : Type 1} → statement M
+take-rows-spec =
+    tie.close
+    (tie.spec
+    Inv-loop
+    μ-loop
+    loop-holds
+    take-row-requires
+    add-i
+    loop-less
+    loop-again
+    same-length
+    returns)

@@ -1,0 +1,23 @@
+-- The first start and the last end of each node's rows, for GAP: found once for all instants.
+--  Stay    first is the smallest start of the first i rows into c, and last their largest end; Now and 0 where there is
+--     none
+--   Stays   two lists hold that for every node
+-- Assumes nothing.
+use mathlib.Core.Path.{_≡_}
+use mathlib.Core.Logic.{_⊎_}
+use mathlib.Core.List.{List}
+use Prim.Native.Nat.{ℕ, _≤_, _<_}
+use lib.ListN.{length, getD}
+use Rattle.ground.specs.Least.{Any}
+use Rattle.tables.specs.Instants.{Now}
+use Rattle.tables.specs.Rows.{Edge}
+
+module _ (E : ℕ → Edge) where
+  pub record Stay (c i first last : ℕ) : Type 0 where
+    pub none-sooner : (j : ℕ) → j < i → E j .child ≡ c → first ≤ E j .from
+    pub starts : (first ≡ Now) ⊎ Any (λ j. (E j .child ≡ c) × (E j .from ≡ first)) i
+    pub none-later : (j : ℕ) → j < i → E j .child ≡ c → E j .to ≤ last
+    pub ends : (last ≡ 0) ⊎ Any (λ j. (E j .child ≡ c) × (E j .to ≡ last)) i
+
+  abbrev pub Stays : ℕ → List ℕ → List ℕ → Type 0
+  Stays i first last = (c : ℕ) → c < length first → Stay c i (getD first c 0) (getD last c 0)

@@ -1,0 +1,23 @@
+-- Walking up from a node by the slots.
+--   above    one step up from node b: its slot, and None past the n nodes
+--   climb    k steps up
+--   Back     the walk up from c comes back to c
+-- Assumes nothing.
+use mathlib.Core.Path.{_≡_}
+use mathlib.Core.Bool.{cond}
+use mathlib.Core.List.{List}
+use Prim.Native.Nat.{ℕ, zero, suc}
+use lib.Dec.{ltb}
+use lib.ListN.{getD}
+use Rattle.faults.specs.Slots.{None}
+
+module _ (up : List ℕ) (n : ℕ) where
+  unfoldable pub above : ℕ → ℕ
+  above b = cond (ltb b n) (getD up b 0) None
+
+  unfoldable pub climb : ℕ → ℕ → ℕ
+  climb zero b = b
+  climb (suc k) b = climb k (above b)
+
+  abbrev pub Back : ℕ → Type 0
+  Back c = (k : ℕ) × (climb (suc k) c ≡ c)

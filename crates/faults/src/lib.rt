@@ -1,0 +1,7 @@
+// The faults at one instant, and how long nothing changes after it.
+pub mod judge;
+pub mod leaves;
+pub mod slots;
+pub mod stays;
+pub mod until;
+pub mod walk;
