@@ -1,0 +1,78 @@
+// The call check: codes 1 to 5, then the earliest fault, found by a sweep over the change instants.
+ghost use Prim.Native.Nat.{ℕ, _<_, _≤_};
+ghost use lib.ListN.{length};
+ghost use Rattle.tables.specs.Rows.{edgeAt};
+ghost use Rattle.history.specs.History.{historyOf, Lent};
+ghost use Rattle.history.specs.Verdict.{Faultless, Verdict};
+ghost use Rattle.faults.specs.Stays.{Stays};
+ghost use Rattle.verdict.specs.Checked.{Checked};
+use answers::Answer;
+use faults::judge::judge;
+use faults::stays::note_rows;
+use faults::until::until;
+use tables::judge::judge_history;
+use tables::label::NOW;
+use tables::rows::edge_count;
+use tables::rows::node_count;
+use tables::rows::ref_count;
+
+// The sweep from an instant before which there is no fault. Between two change instants nothing changes, so it looks at
+// these alone.
+fn sweep_from(
+    start: u32,
+    n: usize,
+    edges: &[u32],
+    m: usize,
+    refs: &[u32],
+    k: usize,
+    first: &[u32],
+    last: &[u32],
+    from: u32,
+) -> Answer
+    requires { ⌜ Lent start n (now edges) m (now refs) k ⌝ }
+    requires { ⌜ (n ≤ length (now first)) × (n ≤ length (now last)) × Stays (edgeAt (now edges)) m (now first)
+        (now last) ⌝ }
+    requires { ⌜ ((s : ℕ) → s < from → Faultless (historyOf start n (now edges) m (now refs) k) s) ⌝ }
+    ensures { λ r. ⌜ Verdict (historyOf start n (now (edges .entry)) m (now (refs .entry)) k) r ⌝ }
+{
+    let mut t = from;
+    loop {
+        let said = judge(start, n, edges, m, refs, k, first, last, t);
+        if said.refuses() {
+            return said;
+        }
+        let calm = until(start, n, edges, m, refs, k, t);
+        if calm == NOW {
+            return Answer::Done(0, 0);
+        }
+        t = calm + 1;
+    }
+}
+
+// The verdict on tables that obey the rules.
+fn sweep(start: u32, n: usize, edges: &[u32], m: usize, refs: &[u32], k: usize) -> Answer
+    requires { ⌜ Lent start n (now edges) m (now refs) k ⌝ }
+    ensures { λ r. ⌜ Verdict (historyOf start n (now (edges .entry)) m (now (refs .entry)) k) r ⌝ }
+{
+    let mut first = [NOW; 1024];
+    let mut last = [0u32; 1024];
+    note_rows(edges, m, &mut first, &mut last);
+    sweep_from(start, n, edges, m, refs, k, &first, &last, start)
+}
+
+pub fn check(start: u32, nodes: &[u32], edges: &[u32], refs: &[u32]) -> Answer
+    ensures { λ r. ⌜ Checked start (now (nodes .entry)) (now (edges .entry)) (now (refs .entry)) r ⌝ }
+{
+    let rules = judge_history(start, nodes, edges, refs);
+    if rules.refuses() {
+        return rules;
+    }
+    sweep(
+        start,
+        node_count(nodes),
+        edges,
+        edge_count(edges),
+        refs,
+        ref_count(refs),
+    )
+}
