@@ -1,0 +1,75 @@
+-- The test of a chain that is too long tells it; and where no chain goes round, none is too long, so that code 24 is
+-- never given. Assumes nothing.
+use mathlib.Core.Path.{_≡_, refl, ap}
+use mathlib.Core.Logic.{Iff·trans}
+use mathlib.Core.Bool.{false}
+use mathlib.Core.List.{List, [], _∷_}
+use Prim.Native.Nat.{ℕ, zero, suc, _≤_, _<_}
+use native.Mathlib.Omega.{arith}
+use lib.ListN.{length}
+use Rattle.ground.specs.Tests.{Tells}
+use Rattle.ground.specs.Least.{Any}
+use Rattle.ground.proofs.TestLaws.{tells-and, tells-fails}
+use Rattle.ground.proofs.LeastLaws.{any-tells}
+use Rattle.tables.specs.Instants.{During}
+use Rattle.tables.specs.Rows.{Edge}
+use Rattle.history.specs.History.{History, Ruled}
+use Rattle.history.specs.Faults.{Chain}
+use Rattle.history.proofs.Chains.{never-deep}
+use Rattle.history.proofs.RuledLaws.{ruled-below}
+use Rattle.history.proofs.Tree.{Tree}
+use Rattle.snapshot.specs.Depth.{mostRows, TooDeep, climbs, tooDeep}
+use Rattle.snapshot.proofs.ChildLaws.{into-tells}
+
+module _ (m : ℕ) (E : ℕ → Edge) (t : ℕ) where
+  -- a chain of k rows leads to n
+  abbrev Above : ℕ → ℕ → Type 0
+  Above k n = (a : ℕ) × (is : List ℕ) × Chain m E t a n is × (length is ≡ k)
+
+  -- its last row, and the chain of k - 1 rows above
+  abbrev Step : ℕ → ℕ → ℕ → Type 0
+  Step k n i = ((E i .child ≡ n) × During (E i .from) (E i .to) t) × Above k (E i .parent)
+
+  climbs-tells : (k n : ℕ) → Tells (climbs m E t k n) (Above k n)
+  unfolding climbs
+  climbs-tells zero n = (λ e. (n, [], refl, refl), λ x. refl)
+  climbs-tells (suc k) n =
+      Iff·trans (any-tells _ (Step k n) (λ i. tells-and _ _ (into-tells m E t n i) (climbs-tells k (E i .parent))) m) (
+        λ (i, h, ((e, f), (a, is, c, l))). (a, i ∷ is, (record { row = h; into = e; force = f }, c), ap suc l),
+        λ (a, is, c, l). back a is c l,
+      )
+    where
+      back : (a : ℕ) (is : List ℕ) → Chain m E t a n is → length is ≡ suc k → Any (Step k n) m
+      back a [] c l = absurd (omega arith)
+      back a (i ∷ is) (p, c) l = (i, p .row, ((p .into, p .force), (a, is, c, omega arith)))
+
+  -- the last k rows of a chain
+  last : (k a n : ℕ) (is : List ℕ) → Chain m E t a n is → k ≤ length is → Above k n
+  last zero a n is c h = (n, [], refl, refl)
+  last (suc k) a n [] c h = absurd (omega arith)
+  last (suc k) a n (i ∷ is) (p, c) h =
+      let (b, js, d, l) = last k a (E i .parent) is c (omega arith) in
+      (b, i ∷ js, (p, d), ap suc l)
+
+module _ (H : History) (t : ℕ) (r : Ruled H) where
+  deep-below : (a b : ℕ) (is : List ℕ) → Chain (H .edges) (H .edge) t a b is → 0 < length is → b < H .nodes
+  deep-below a b [] c h = absurd (omega arith)
+  deep-below a b (i ∷ is) (p, c) h = omega (arith, r .edge-ruled i (p .row) .child, p .into)
+
+  pub deep-tells : Tells (tooDeep H t) (TooDeep H t)
+  unfolding tooDeep
+  deep-tells =
+      Iff·trans (any-tells _ _ (climbs-tells (H .edges) (H .edge) t (suc mostRows)) (H .nodes)) (
+        λ (b, h, (a, is, c, l)). (a, b, is, c, omega arith),
+        λ (a, b, is, c, h).
+            (b, deep-below a b is c (omega arith), last (H .edges) (H .edge) t (suc mostRows) a b is c (omega arith)),
+      )
+
+  pub not-deep : Tree (H .edges) (H .edge) t → tooDeep H t ≡ false
+  not-deep tree = tells-fails (tooDeep H t) deep-tells (λ (a, b, is, c, h). short a b is c h)
+    where
+      short : (a b : ℕ) (is : List ℕ) → Chain (H .edges) (H .edge) t a b is → mostRows < length is → ⊥
+      short a b [] c h = omega arith
+      short a b (i ∷ is) c h =
+          let n = never-deep (H .edges) (H .edge) t (H .nodes) (ruled-below H r) (tree .no-cycle) a b i is c in
+          omega (arith, r .few-nodes)

@@ -1,0 +1,14 @@
+pub mod WalkLaws
+pub mod PartLaws
+pub mod LinkLaws
+pub mod ValueLaws
+pub mod CountLaws
+pub mod ChildLaws
+pub mod ExactLaws
+pub mod DepthLaws
+pub mod OutcomeLaws
+pub mod RowLaws
+pub mod ShowLaws
+pub mod AnswersLaws
+pub mod Contained
+pub mod StarredCases

@@ -1,0 +1,231 @@
+-- The measure is the number of nodes not yet on the chain. The loop's invariant: the children from c on are still to
+-- come. Its measure: how many these are.
+use Prim.Native.Nat.{ℕ, _<_, _≤_, _+_, _-_, _*_}
+use mathlib.Core.Path.{_≡_, ap}
+use mathlib.Core.List.{List, _∷_}
+use native.Mathlib.Omega.{arith}
+use borrow.Author.Needs.{needs}
+use borrow.Fn.Kinds.{In}
+use borrow.Fn.PlainCycle.{Measures, is, falls, and}
+use lib.ListN.{length, getD, length-drop}
+use Rattle.snapshot.specs.Walk.{Place, subtree, rowWidth}
+use Rattle.snapshot.specs.Lists.{follow, kidsOf}
+use Rattle.snapshot.proofs.WalkLaws.{peel}
+use Rattle.snapshot.proofs.PartLaws.{Part, part-start, part-long, part-room, part-fill, part-end, part-all}
+use Rattle.snapshot.proofs.PartLaws.{part-none}
+use Rattle.snapshot.proofs.LinkLaws.{follow-stop}
+use Rattle.snapshot.proofs.walk.walk.Reads as walk
+use Rattle.snapshot.proofs.walk.walk.Kinds as walk-kinds
+use Rattle.snapshot.proofs.walk.+walk.Lts-walk as walk-lts
+use Rattle.snapshot.proofs.walk.put_row.Reads as put-row-reads
+use Rattle.snapshot.proofs.walk.+walk.{statement}
+use Rattle.snapshot.proofs.walk.+walk.Tie.{close}
+
+abbrev μ-walk : Measures 4 walk-kinds.ps ℕ
+μ-walk κs a = a .1 .1 .1 .1 .1 .1 .0
+
+abbrev walk-at : ℕ → In 4 walk-kinds.ps
+walk-at t = and 4 walk-kinds.ps (is 4 walk-kinds.ps μ-walk t) walk.Pre
+
+abbrev walk-below : ℕ → In 4 walk-kinds.ps
+walk-below t = and 4 walk-kinds.ps (falls 4 walk-kinds.ps _<_ μ-walk t) walk.Pre
+
+abbrev walk-Inv-loop : walk-lts.InvT-loop
+walk-Inv-loop first next referents count node parent left out₀ i rows₀ c₀ out rows c =
+    Part (kidsOf first next count) left parent node (λ x. getD referents x 0) out₀ out rows (follow next count count c)
+
+abbrev walk-μ-loop : walk-lts.MeasureT-loop
+walk-μ-loop first next referents count node parent left out₀ i rows₀ c₀ out rows c = length (follow next count count c)
+
+-- what `walk` is told of its callees at the measure t
+abbrev calls : ℕ → walk-lts.Claims
+calls t = (put-row-reads.Asked, put-row-reads.Learnt, walk-below t, walk.Post)
+
+module _ (t : ℕ) where
+  -- the places: the entry, the loop, and the turn that takes the child c
+  abbrev Start : Type 0
+  Start = walk-lts.Start (calls t) (walk-at t) walk.Post walk-Inv-loop walk-μ-loop
+
+  abbrev Loop : Type 0
+  Loop = walk-lts.At-loop (calls t) (walk-at t) walk.Post walk-Inv-loop walk-μ-loop
+
+  abbrev Turn : Type 0
+  Turn = walk-lts.In-loop (calls t) (walk-at t) walk.Post walk-Inv-loop walk-μ-loop
+
+  abbrev start : Loop → Start
+  start l = l .before .before .before .before .before .before .before .before .before .before .before .before
+
+  -- the children and the referents that the lists hold
+  abbrev kids : Start → ℕ → List ℕ
+  kids s = kidsOf (s .args .first .now) (s .args .next .now) (s .args .count)
+
+  abbrev run : Start → ℕ → List ℕ
+  run s = follow (s .args .next .now) (s .args .count) (s .args .count)
+
+  abbrev referent : Start → ℕ → ℕ
+  referent s x = getD (s .args .referents .now) x 0
+
+  long : (l : Loop)
+      → (l .loop .rows * rowWidth ≤ length (l .loop .out)) × (length (l .loop .out) ≡ length (start l .args .out .now))
+  long l =
+      let s = start l in
+      let h = part-long (kids s) (s .args .left) (s .args .parent) (s .args .node) (referent s) _ _ _ _ (l .loop .inv) in
+      omega (arith, h, l .before .before .before .before .put-row .kept .0)
+
+  -- the walk stands so at the loop, with the children `rest` to come
+  abbrev Parted : Loop → List ℕ → Type 0
+  Parted l rest =
+      let s = start l in
+      Part (kids s) (s .args .left) (s .args .parent) (s .args .node) (referent s)
+      (l .before .before .before .before .put-row .last .0)
+      (l .loop .out) (l .loop .rows) rest
+
+  -- the places under the child c, and the children after it
+  abbrev child : Turn → List Place
+  child c =
+      let s = start (c .before) in
+      subtree (kids s) (s .args .left - 1) (s .args .node) (c .before .loop .c)
+
+  abbrev later : Turn → List ℕ
+  later c = let s = start (c .before) in run s (getD (s .args .next .now) (c .before .loop .c) 0)
+
+  -- c is the next of the children still to come
+  turn : (c : Turn) → Parted (c .before) (c .before .loop .c ∷ later c)
+  turn c =
+      rw (start (c .before) .pre .1 .0 .0 .goes (c .before .loop .c) (c .loop-test .taken)) at (c .before .loop .inv)
+
+  -- there is room for its rows
+  room : (c : Turn) → (c .before .loop .rows + length (child c)) * rowWidth ≤ length (c .before .loop .out)
+  room c =
+      let s = start (c .before) in
+      part-room (kids s) (s .args .left) (s .args .parent) (s .args .node) (referent s) _ _ _ _ _ (turn c)
+
+  walk-returns : walk-lts.Need-returns (calls t) (walk-at t) walk.Post walk-Inv-loop walk-μ-loop
+  walk-returns c =
+      let s = c .before .before .before .before .before in
+      let (k, o) =
+      part-none (kids s) (s .args .left) (s .args .parent) (s .args .node) (referent s) (s .args .out .now)
+      (c .if1 .taken) in
+      record { rows = k; out = o }
+
+  walk-mul-put-row : walk-lts.Need-mul-put-row (calls t) (walk-at t) walk.Post walk-Inv-loop walk-μ-loop
+  walk-mul-put-row c = search needs
+
+  walk-shared-slice-read-put-row :
+      walk-lts.Need-shared-slice-read-put-row (calls t) (walk-at t) walk.Post walk-Inv-loop walk-μ-loop
+  walk-shared-slice-read-put-row c = search needs
+
+  walk-put-row-requires : walk-lts.Need-put-row-requires (calls t) (walk-at t) walk.Post walk-Inv-loop walk-μ-loop
+  walk-put-row-requires c κs =
+      let s = c .before .before .before .before .before .before .before in
+      let here = peel (kids s) (s .args .left) (s .args .parent) (s .args .node) (omega arith) in
+      omega (arith, s .pre .1, ap length here)
+
+  walk-mul-c : walk-lts.Need-mul-c (calls t) (walk-at t) walk.Post walk-Inv-loop walk-μ-loop
+  walk-mul-c c = search needs
+
+  walk-shared-slice-read-c : walk-lts.Need-shared-slice-read-c (calls t) (walk-at t) walk.Post walk-Inv-loop walk-μ-loop
+  walk-shared-slice-read-c c = search needs
+
+  walk-loop-holds : walk-lts.Need-loop-holds (calls t) (walk-at t) walk.Post walk-Inv-loop walk-μ-loop
+  walk-loop-holds c =
+      let s = c .before .before .before .before .before .before .before .before .before .before .before in
+      part-start (kids s) (s .args .left) (s .args .parent) (s .args .node) (referent s) _ _ (omega arith) (omega arith)
+      (c .before .before .before .put-row .ensures)
+
+  walk-mul-at : walk-lts.Need-mul-at (calls t) (walk-at t) walk.Post walk-Inv-loop walk-μ-loop
+  walk-mul-at c = omega (arith, long (c .before))
+
+  walk-sub-walk : walk-lts.Need-sub-walk (calls t) (walk-at t) walk.Post walk-Inv-loop walk-μ-loop
+  walk-sub-walk c = search needs
+
+  walk-mul-walk : walk-lts.Need-mul-walk (calls t) (walk-at t) walk.Post walk-Inv-loop walk-μ-loop
+  walk-mul-walk c = omega (arith, long (c .before))
+
+  walk-sub-walk-2 : walk-lts.Need-sub-walk-2 (calls t) (walk-at t) walk.Post walk-Inv-loop walk-μ-loop
+  walk-sub-walk-2 c = omega (arith, long (c .before))
+
+  walk-part-walk-start : walk-lts.Need-part-walk-start (calls t) (walk-at t) walk.Post walk-Inv-loop walk-μ-loop
+  walk-part-walk-start c = omega (arith, long (c .before))
+
+  walk-part-walk-end : walk-lts.Need-part-walk-end (calls t) (walk-at t) walk.Post walk-Inv-loop walk-μ-loop
+  walk-part-walk-end c = search needs
+
+  walk-walk-requires : walk-lts.Need-walk-requires (calls t) (walk-at t) walk.Post walk-Inv-loop walk-μ-loop
+  walk-walk-requires c κs =
+      let s = start (c .before .before) in (
+        omega (arith, s .pre .0, c .before .before .loop .inv .some),
+        ((s .pre .1 .0 .0, omega arith, s .pre .1 .0 .2), rw (part-all, length-drop) (omega (arith, room (c .before)))),
+      )
+
+  walk-add-rows : walk-lts.Need-add-rows (calls t) (walk-at t) walk.Post walk-Inv-loop walk-μ-loop
+  walk-add-rows c =
+      let l = c .before .before .before .before .before in
+      let fits = room (c .before .before .before .before) in
+      omega (arith, c .before .before .walk .ensures .rows, long l, start l .good)
+
+  walk-cast-j : walk-lts.Need-cast-j (calls t) (walk-at t) walk.Post walk-Inv-loop walk-μ-loop
+  walk-cast-j c = search needs
+
+  walk-mul-c-2 : walk-lts.Need-mul-c-2 (calls t) (walk-at t) walk.Post walk-Inv-loop walk-μ-loop
+  walk-mul-c-2 c = search needs
+
+  walk-shared-slice-read-c-2 :
+      walk-lts.Need-shared-slice-read-c-2 (calls t) (walk-at t) walk.Post walk-Inv-loop walk-μ-loop
+  walk-shared-slice-read-c-2 c = search needs
+
+  walk-loop-less : walk-lts.Need-loop-less (calls t) (walk-at t) walk.Post walk-Inv-loop walk-μ-loop
+  walk-loop-less c =
+      let l = c .before .before .before .before .before .before in
+      let test = c .before .before .before .before .before .loop-test .taken in
+      omega (arith, ap length (start l .pre .1 .0 .0 .goes (l .loop .c) test))
+
+  walk-loop-again : walk-lts.Need-loop-again (calls t) (walk-at t) walk.Post walk-Inv-loop walk-μ-loop
+  walk-loop-again c =
+      let s = start (c .before .before .before .before .before .before) in
+      let d = c .before .before .before .walk in
+      part-fill (kids s) (s .args .left) (s .args .parent) (s .args .node) (referent s) _ _ _ _ _
+      (turn (c .before .before .before .before .before)) _ _
+      (d .ensures .rows) (d .ensures .out)
+
+  walk-same-length : walk-lts.Need-same-length (calls t) (walk-at t) walk.Post walk-Inv-loop walk-μ-loop
+  walk-same-length c = long (c .before) .1
+
+  walk-returns-2 : walk-lts.Need-returns-2 (calls t) (walk-at t) walk.Post walk-Inv-loop walk-μ-loop
+  walk-returns-2 c =
+      let l = c .before in
+      let s = start l in
+      let e = follow-stop (s .args .next .now) (s .args .count) (s .args .count) (l .loop .c) (c .loop-test .left) in
+      let (k, o) =
+      part-end (kids s) (s .args .left) (s .args .parent) (s .args .node) (referent s) _ _ _ (s .args .out .now)
+      (rw e at (l .loop .inv)) (l .before .before .before .before .put-row .ensures) in
+      record { rows = k; out = o }
+
+pub +walk-spec : {M : Type 1} → statement M
++walk-spec = close μ-walk λ t. walk-lts.spec (calls t)
+    (walk-at t)
+    walk.Post
+    walk-Inv-loop
+    walk-μ-loop
+    (walk-returns t)
+    (walk-mul-put-row t)
+    (walk-shared-slice-read-put-row t)
+    (walk-put-row-requires t)
+    (walk-mul-c t)
+    (walk-shared-slice-read-c t)
+    (walk-loop-holds t)
+    (walk-mul-at t)
+    (walk-sub-walk t)
+    (walk-mul-walk t)
+    (walk-sub-walk-2 t)
+    (walk-part-walk-start t)
+    (walk-part-walk-end t)
+    (walk-walk-requires t)
+    (walk-add-rows t)
+    (walk-cast-j t)
+    (walk-mul-c-2 t)
+    (walk-shared-slice-read-c-2 t)
+    (walk-loop-less t)
+    (walk-loop-again t)
+    (walk-same-length t)
+    (walk-returns-2 t)

@@ -1,0 +1,6 @@
+pub mod Walk
+pub mod Depth
+pub mod Snapshot
+pub mod Answers
+pub mod Lists
+pub mod Exact

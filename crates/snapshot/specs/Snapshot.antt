@@ -1,0 +1,120 @@
+-- What the call snapshot answers and writes, computed. specs/Answers.antt says it in the document's words.
+--   noNode       the number that stands for no node
+--   below        the numbers below a bound that pass a test, rising
+--   isChild      a row from one node to another is in force; childrenAt: a node's children
+--   placesAt     the root and what it contains, in the order of the rows
+--   valueAt      the number of the smallest row that passes a test
+--   referentAt   a node's referent
+--   childrenOf, placesOf, rowsOf   the same of a history at an instant, and the numbers of its rows
+--   held     the history that whole tables hold
+--   roomSays     21; ruledSays: 23, faults, 24, 21; snapshotSays: 1 to 5, 23, faults, 24, 21
+--   written      what the output holds after an answer
+--   Outcome      a function answers so, and leaves the output so
+--   RuledSnapshot, CleanSnapshot   what is given once the tables are known to be so
+--   NoneShown    no fault but GAP at an instant; Clean: the tables hold such a history
+-- Assumes nothing.
+use mathlib.Core.Path.{_≡_}
+use mathlib.Core.Bool.{Bool, cond, _&&_}
+use mathlib.Core.List.{List, [], _∷_, _++_}
+use Prim.Native.Nat.{ℕ, zero, suc, _*_, _≤_}
+use lib.Dec.{ltb, eqb}
+use lib.ListN.{length}
+use Rattle.ground.specs.Least.{any, least}
+use Rattle.answers.specs.declared.Fault.{Fault}
+use Rattle.answers.specs.declared.Answer.{Answer}
+use Rattle.answers.specs.declared.Answer.the-variants.{Done, Early, Deep, Room}
+use Rattle.answers.specs.Numbers.{refuses}
+use Rattle.answers.specs.Refusals.{when, _⨾_}
+use Rattle.tables.specs.Instants.{during}
+use Rattle.tables.specs.Rows.{Edge, Ref, edgeAt, refAt}
+use Rattle.tables.specs.Says.{historySays}
+use Rattle.history.specs.History.{History, historyOf, Lent, held}
+use Rattle.history.specs.Verdict.{Shown}
+use Rattle.history.specs.Computed.{isInto, shownSay}
+use Rattle.snapshot.specs.Walk.{Place, subtree, rowWidth, flat, front}
+use Rattle.snapshot.specs.Depth.{tooDeep}
+
+-- [01:What the calls answer] "The root's parent is 4,294,967,295. Referent is .. 4,294,967,295 if there is none."
+abbrev pub noNode : ℕ
+noNode = 4294967295
+
+unfoldable pub below : (ℕ → Bool) → ℕ → List ℕ
+below p zero = []
+below p (suc k) = below p k ++ cond (p k) (k ∷ []) []
+
+module _ (m : ℕ) (E : ℕ → Edge) (t : ℕ) where
+  unfoldable pub isChild : ℕ → ℕ → Bool
+  isChild p c = any (λ i. eqb (E i .parent) p && isInto m E t c i) m
+
+  -- [01:What the calls answer] "children by rising node number". Of n nodes:
+  abbrev pub childrenAt : ℕ → ℕ → List ℕ
+  childrenAt n p = below (isChild p) n
+
+  -- [01:What the calls answer] "Rows stand for the root and all nodes present at t."
+  abbrev pub placesAt : ℕ → List Place
+  placesAt n = subtree (childrenAt n) n noNode 0
+
+-- the number v i of the smallest row i below m that passes, or noNode where none does
+unfoldable pub valueAt : (ℕ → Bool) → (ℕ → ℕ) → ℕ → ℕ
+valueAt p v m = cond (ltb (least p m) m) (v (least p m)) noNode
+
+-- [01:What the calls answer] "Referent is the target of the smallest reference row in force from that node, or
+-- 4,294,967,295 if there is none."
+abbrev pub refersFrom : (ℕ → Ref) → ℕ → ℕ → ℕ → Bool
+refersFrom R t n i = eqb (R i .attribute) n && during (R i .from) (R i .to) t
+
+abbrev pub referentAt : ℕ → (ℕ → Ref) → ℕ → ℕ → ℕ
+referentAt k R t n = valueAt (refersFrom R t n) (λ i. R i .target) k
+
+abbrev pub childrenOf : History → ℕ → ℕ → List ℕ
+childrenOf H t = childrenAt (H .edges) (H .edge) t (H .nodes)
+
+abbrev pub placesOf : History → ℕ → List Place
+placesOf H t = placesAt (H .edges) (H .edge) t (H .nodes)
+
+abbrev pub rowsOf : History → ℕ → List ℕ
+rowsOf H t = flat (referentAt (H .refs) (H .ref) t) (placesOf H t)
+
+-- [01:What the calls answer] Snapshot: "21 (instant t, place: rows needed). Otherwise code 0, instant t, place k". For
+-- an output of `room` numbers:
+unfoldable pub roomSays : ℕ → ℕ → ℕ → Answer
+roomSays t rows room = when (ltb room (rows * rowWidth)) (Room t rows) ⨾ Done t rows
+
+-- [01:What the calls answer] Snapshot: "23, then the fault at t of smallest code and place with GAP set aside, 24, 21"
+unfoldable pub ruledSays : History → ℕ → ℕ → Answer
+ruledSays H t room =
+    when (ltb t (H .start)) (Early t)
+    ⨾ shownSay H t
+    ⨾ when (tooDeep H t) (Deep t)
+    ⨾ roomSays t (length (placesOf H t)) room
+
+-- [01:What the calls answer] Snapshot: "1 to 5 in order, 23, .."
+unfoldable pub snapshotSays : ℕ → List ℕ → List ℕ → List ℕ → ℕ → ℕ → Answer
+snapshotSays start ns es rs t room = historySays start ns es rs ⨾ ruledSays (held start ns es rs) t room
+
+-- [01:What the calls answer] "No refusal writes to a lent table or buffer."
+unfoldable pub written : Answer → List ℕ → List ℕ → List ℕ
+written a rows out = cond (refuses a) out (front rows out)
+
+pub record Outcome (a : Answer) (rows before : List ℕ) (r : Answer) (after : List ℕ) : Type 0 where
+  pub answer : r ≡ a
+  pub out : after ≡ written a rows before
+
+-- what is given once the tables obey their rules; and once they are clean, so that only the room is to judge
+abbrev pub RuledSnapshot : History → ℕ → List ℕ → Answer → List ℕ → Type 0
+RuledSnapshot H t before = Outcome (ruledSays H t (length before)) (rowsOf H t) before
+
+abbrev pub CleanSnapshot : ℕ → List ℕ → ℕ → List ℕ → ℕ → ℕ → List ℕ → Answer → List ℕ → Type 0
+CleanSnapshot n es m rs k t before =
+    let places = placesAt m (edgeAt es) t n in
+    Outcome (roomSays t (length places) (length before)) (flat (referentAt k (refAt rs) t) places) before
+
+-- no fault but GAP
+abbrev pub NoneShown : History → ℕ → Type 0
+NoneShown H t = (f : Fault) → Shown H t f → ⊥
+
+pub record Clean (n : ℕ) (es : List ℕ) (m : ℕ) (rs : List ℕ) (k t : ℕ) : Type 0 where
+  pub start : ℕ
+  pub lent : Lent start n es m rs k
+  pub begun : start ≤ t
+  pub none : NoneShown (historyOf start n es m rs k) t
