@@ -1,0 +1,11 @@
+pub mod TieLaws
+pub mod EndLaws
+pub mod StoreLaws
+pub mod BoundLaws
+pub mod StepLaws
+pub mod SaysLaws
+pub mod NewEndLaws
+pub mod StayLaws
+pub mod LeftLaws
+pub mod Repaired
+pub mod Starred

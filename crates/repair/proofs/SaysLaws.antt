@@ -1,0 +1,72 @@
+-- The outcomes of repair, each by what the code has in hand where it answers so. Assumes nothing.
+use mathlib.Core.Path.{_≡_, refl, sym, ap, _∙_}
+use mathlib.Core.Bool.{true, false, not}
+use mathlib.Core.List.{List}
+use Prim.Native.Nat.{ℕ, _≤_, _<_}
+use native.Mathlib.Omega.{arith}
+use borrow.Author.Tests.{eq-eqb, lt-ltb, le-ltb}
+use Rattle.ground.specs.Least.{least}
+use Rattle.ground.specs.Sums.{bit}
+use Rattle.ground.proofs.SumLaws.{sum-zero}
+use Rattle.answers.specs.declared.Answer.{Answer}
+use Rattle.answers.specs.declared.Answer.the-variants.{Done, Tie}
+use Rattle.answers.specs.Numbers.{refuses}
+use Rattle.answers.proofs.AnswerLaws.{both-pass}
+use Rattle.tables.specs.Rows.{Edge, edgeAt, edgeCount, HasEdges}
+use Rattle.tables.specs.Rules.{mostEdges}
+use Rattle.tables.specs.Says.{smallest, containmentSays}
+use Rattle.tables.proofs.SaysLaws.{none-bad, bad-none, contained-tells}
+use Rattle.repair.specs.Ends.{tied, newEnd, repaired, changed}
+use Rattle.repair.specs.Steps.{Written}
+use Rattle.repair.specs.Says.{tieAt, settleSays, settleLeaves, repairSays, repairLeaves, Settled, Repaired}
+use Rattle.repair.proofs.StepLaws.{changes-differ}
+
+-- the first tie is a row, or there is none
+module _ (es : List ℕ) (m : ℕ) {row : ℕ} (er : row ≡ least (tied (edgeAt es)) m) where
+  pub on-tie : {t : ℕ} → row < m → t ≡ edgeAt es row .from → Settled es m (Tie t row) es
+  unfolding settleSays settleLeaves
+  on-tie h et = record { answer = simp (← er, lt-ltb row m h, ← et); table = simp (← er, lt-ltb row m h) }
+
+  pub on-mend : {n : ℕ} {left : List ℕ} → HasEdges es m → m ≤ row → Written es (newEnd (edgeAt es) m) m n left
+      → Settled es m (Done 0 n) left
+  unfolding settleSays settleLeaves repaired
+  on-mend has h x =
+      record {
+        answer = simp (← er, le-ltb row m h) (ap (Done 0) (x .number ∙ changes-differ es m has));
+        table = simp (← er, le-ltb row m h) (x .table);
+      }
+
+-- the tables break a rule, or obey them
+module _ (start : ℕ) (ns es : List ℕ) {r : Answer} (er : r ≡ containmentSays start ns es) where
+  pub on-refusal : refuses r ≡ true → Repaired start ns es r es
+  unfolding repairSays repairLeaves
+  on-refusal t = record { answer = simp (← er, t); table = simp (← er, t) }
+
+  pub on-rows : {q : Answer} {left : List ℕ} {m : ℕ} → refuses r ≡ false → m ≡ edgeCount es → Settled es m q left
+      → Repaired start ns es q left
+  unfolding repairSays repairLeaves settleLeaves
+  on-rows f em x = record { answer = simp (← er, f, ← em) (x .answer); table = simp (← er, f, ← em) (x .table) }
+
+  pub rows-most : refuses r ≡ false → edgeCount es ≤ mostEdges
+  rows-most f =
+      let (rows, e, lo, hi) = contained-tells start ns es .0 (ap refuses (sym er) ∙ f) .edges-size in
+      omega arith
+
+-- m rows pass if none is tied, and only then; what is said of them is then the count
+module _ (es : List ℕ) (m : ℕ) where
+  abbrev count : Answer
+  count = Done 0 (changed (edgeAt es) (edgeAt (repaired es m)) m)
+
+  pub untied-settle : ((i : ℕ) → i < m → tied (edgeAt es) i ≡ false) → settleSays es m ≡ count
+  unfolding settleSays
+  untied-settle none = rw (bad-none (tieAt es) (λ i. refl) (tied (edgeAt es)) m none)
+
+  pub settle-untied : refuses (settleSays es m) ≡ false → (i : ℕ) → i < m → tied (edgeAt es) i ≡ false
+  unfolding settleSays
+  settle-untied e =
+      none-bad (tieAt es) (λ i. refl) (tied (edgeAt es)) m
+      (both-pass (smallest (tieAt es) (tied (edgeAt es)) m) count e .0)
+
+-- no row of a table differs from itself
+pub changed-none : (edge : ℕ → Edge) (m : ℕ) → changed edge edge m ≡ 0
+changed-none edge m = sum-zero _ m (λ i h. ap (λ b. bit (not b)) (eq-eqb (edge i .to) (edge i .to) refl))

@@ -1,0 +1,62 @@
+-- The step that writes ends, and what the steps come to with the new ends. Assumes nothing.
+use mathlib.Core.Path.{_≡_, refl, sym, ap, _∙_}
+use mathlib.Core.Bool.{not}
+use mathlib.Core.List.{List}
+use Prim.Native.Nat.{ℕ, _+_, _≤_, _<_}
+use native.Mathlib.Omega.{arith}
+use lib.Dec.{eqb}
+use borrow.Author.Tests.{eq-eqb, ne-eqb}
+use Rattle.ground.specs.Sums.{sum, bit}
+use Rattle.ground.proofs.SumLaws.{sum-more, sum-ext, count-le}
+use Rattle.tables.specs.Rows.{Edge, edgeAt, HasEdges, withEnd, setEnd}
+use Rattle.repair.specs.Ends.{newEnd, withEnds, repaired, changed}
+use Rattle.repair.specs.Steps.{changes, Written}
+use Rattle.repair.proofs.StoreLaws.{ends-more, ends-rest, ends-done, ends-same}
+
+-- the writing loop at its beginning
+pub written-none : (es : List ℕ) (f : ℕ → ℕ) → Written es f 0 0 es
+unfolding changes sum withEnds
+written-none es f = record { number = refl; table = refl }
+
+-- and after a turn: the rows below i were written, row i was not, and it had another end, or had not
+module _ (es : List ℕ) (f : ℕ → ℕ) (i : ℕ) {cur left : List ℕ} {a old : ℕ} (x : Written es f i old cur)
+    (ea : a ≡ edgeAt cur i .to) (el : left ≡ setEnd cur i (f i)) where
+  had : a ≡ edgeAt es i .to
+  had = ea ∙ rw (x .table, ends-rest es f i i (omega arith))
+
+  more : left ≡ withEnds es f (i + 1)
+  more = cc (ends-more es f i, x .table)
+
+  pub written-hit : {new : ℕ} → (a ≡ f i → ⊥) → new ≡ old + 1 → Written es f (i + 1) new left
+  unfolding changes
+  written-hit h e = record { number = simp (sum-more, ← had, ne-eqb a (f i) h, ← x .number) e; table = more }
+
+  pub written-miss : {new : ℕ} → a ≡ f i → new ≡ old → Written es f (i + 1) new left
+  unfolding changes
+  written-miss h e =
+      record { number = simp (sum-more, ← had, eq-eqb a (f i) h, ← x .number) (omega arith); table = more }
+
+pub written-le : {es : List ℕ} {f : ℕ → ℕ} {m n : ℕ} {left : List ℕ} → Written es f m n left → n ≤ m
+unfolding changes
+written-le {es} {f} {m} x = omega (arith, x .number, count-le (λ i. not (eqb (edgeAt es i .to) (f i))) m)
+
+-- ends that agree are written alike
+pub written-same : (es : List ℕ) (f g : ℕ → ℕ) (m : ℕ) {n : ℕ} {left : List ℕ}
+    → ((i : ℕ) → i < m → f i ≡ g i) → Written es f m n left → Written es g m n left
+unfolding changes
+written-same es f g m same x =
+    record {
+      number = x .number ∙ sum-ext _ _ m (λ i h. ap (λ v. bit (not (eqb (edgeAt es i .to) v))) (same i h));
+      table = x .table ∙ ends-same es f g m same;
+    }
+
+module _ (es : List ℕ) (m : ℕ) (has : HasEdges es m) where
+  pub repaired-row : (i : ℕ) → i < m → edgeAt (repaired es m) i ≡ withEnd (edgeAt es i) (newEnd (edgeAt es) m i)
+  unfolding repaired
+  repaired-row i h = ends-done es (newEnd (edgeAt es) m) m i has h
+
+  -- the rows that get another end are those whose end differs
+  pub changes-differ : changes (edgeAt es) (newEnd (edgeAt es) m) m ≡ changed (edgeAt es) (edgeAt (repaired es m)) m
+  unfolding changes
+  changes-differ =
+      sum-ext _ _ m (λ i h. ap (λ (x : Edge). bit (not (eqb (edgeAt es i .to) (x .to)))) (sym (repaired-row i h)))

@@ -1,0 +1,4 @@
+pub mod Ends
+pub mod Stays
+pub mod Steps
+pub mod Says

@@ -1,0 +1,46 @@
+-- What repair answers, and what it leaves in the containment table.
+--   tieAt                      the tie that row i names
+--   settleSays, settleLeaves   of m rows that obey the rules: the tie, or the repair
+--   repairSays, repairLeaves   of any two tables
+--   Settled, Repaired          an answer and a table afterwards that are these
+-- Assumes nothing.
+use mathlib.Core.Path.{_≡_}
+use mathlib.Core.Bool.{cond}
+use mathlib.Core.List.{List}
+use Prim.Native.Nat.{ℕ}
+use Rattle.answers.specs.declared.Answer.{Answer}
+use Rattle.answers.specs.declared.Answer.the-variants.{Done, Tie}
+use Rattle.answers.specs.Numbers.{refuses}
+use Rattle.answers.specs.Refusals.{_⨾_}
+use Rattle.tables.specs.Rows.{edgeAt, edgeCount}
+use Rattle.tables.specs.Says.{smallest, containmentSays}
+use Rattle.repair.specs.Ends.{tied, repaired, changed}
+
+abbrev pub tieAt : List ℕ → ℕ → Answer
+tieAt es i = Tie (edgeAt es i .from) i
+
+-- [01:What the calls answer] "22 with place the smallest row that shares its child and its start with a smaller row,
+-- and instant that start"; "Place is the count of rows whose end differs from before."
+unfoldable pub settleSays : List ℕ → ℕ → Answer
+settleSays es m =
+    smallest (tieAt es) (tied (edgeAt es)) m
+    ⨾ Done 0 (changed (edgeAt es) (edgeAt (repaired es m)) m)
+
+-- [01:What the calls answer] Repair "takes start, nodes and the containment table: 1 to 4 in order, then 22"
+unfoldable pub repairSays : ℕ → List ℕ → List ℕ → Answer
+repairSays start ns es = containmentSays start ns es ⨾ settleSays es (edgeCount es)
+
+-- [01:What the calls answer] "No refusal writes to a lent table or buffer."
+unfoldable pub settleLeaves : List ℕ → ℕ → List ℕ
+settleLeaves es m = cond (refuses (settleSays es m)) es (repaired es m)
+
+unfoldable pub repairLeaves : ℕ → List ℕ → List ℕ → List ℕ
+repairLeaves start ns es = cond (refuses (repairSays start ns es)) es (repaired es (edgeCount es))
+
+pub record Settled (es : List ℕ) (m : ℕ) (r : Answer) (left : List ℕ) : Type 0 where
+  pub answer : r ≡ settleSays es m
+  pub table : left ≡ settleLeaves es m
+
+pub record Repaired (start : ℕ) (ns es : List ℕ) (r : Answer) (left : List ℕ) : Type 0 where
+  pub answer : r ≡ repairSays start ns es
+  pub table : left ≡ repairLeaves start ns es
