@@ -1,0 +1,91 @@
+use mathlib.Core.Path.{_≡_, refl}
+use Prim.Native.Nat.{suc, _-_, _<_}
+use native.Mathlib.Omega.{arith}
+use denote.Ref.{now}
+use lib.ListN.{length}
+use borrow.Author.Needs.{needs}
+use Rattle.lines.proofs.WriteLaws.{Counting, count-turn, count-done}
+use Rattle.lines.proofs.write.numbers_len.Statement.{statement}
+use Rattle.lines.proofs.write.numbers_len.Tie as tie
+
+abbrev Inv-loop : tie.InvT-loop
+Inv-loop f table base sum₀ left₀ j₀ sum left j = Counting f table base left j sum
+
+abbrev μ-loop : tie.MeasureT-loop
+μ-loop f table base sum₀ left₀ j₀ sum left j = left
+
+loop-holds : tie.Need-loop-holds Inv-loop μ-loop
+loop-holds c = record { total = omega arith; room = refl; small = omega arith }
+
+sub-left : tie.Need-sub-left Inv-loop μ-loop
+sub-left c = search needs
+
+mul-number-len : tie.Need-mul-number-len Inv-loop μ-loop
+mul-number-len c = omega (arith, c .before .before .before .good, c .before .before .before .pre .0)
+
+shared-slice-read-number-len : tie.Need-shared-slice-read-number-len Inv-loop μ-loop
+shared-slice-read-number-len c = search needs
+
+is-end-requires : tie.Need-is-end-requires Inv-loop μ-loop
+is-end-requires c κs = search needs
+
+number-len-requires : tie.Need-number-len-requires Inv-loop μ-loop
+number-len-requires c κs = search needs
+
+add-sum : tie.Need-add-sum Inv-loop μ-loop
+add-sum c = omega (arith, c .number-len .ensures)
+
+add-sum-2 : tie.Need-add-sum-2 Inv-loop μ-loop
+add-sum-2 c =
+    omega (
+      arith,
+      c .number-len .ensures,
+      c .before .before .before .before .loop .inv .small,
+      c .before .before .before .before .before .before .pre .1,
+    )
+
+add-j : tie.Need-add-j Inv-loop μ-loop
+add-j c = search needs
+
+loop-less : tie.Need-loop-less Inv-loop μ-loop
+loop-less c = search needs
+
+loop-again : tie.Need-loop-again Inv-loop μ-loop
+loop-again c =
+    let a = c .before .before .before .before .before .before .args in
+    let l = c .before .before .before .before .loop in
+    let more : l .left ≡ suc (l .left - 1) = omega (arith, c .before .before .before .loop-test .taken) in
+    let inside : l .j < length (now (a .table)) = omega (
+      arith,
+      c .before .before .before .loop-test .taken,
+      c .before .before .before .before .before .before .pre .0,
+    ) in
+    let n = c .number-len in
+    let end = c .before .is-end in
+    count-turn (a .f) (now (a .table)) (a .base) (l .left) (l .j) (l .sum) (l .inv) (l .left - 1) (end .result)
+    (n .result) more (end .ensures) inside (n .ensures)
+
+returns : tie.Need-returns Inv-loop μ-loop
+returns c =
+    let a = c .before .before .before .args in
+    let l = c .before .loop in
+    count-done (a .f) (now (a .table)) (a .base) (l .left) (l .j) (l .sum) (l .inv) (c .loop-test .left)
+
+pub numbers-len-spec : {M : Type 1} → statement M
+numbers-len-spec =
+    tie.close
+    (tie.spec
+    Inv-loop
+    μ-loop
+    loop-holds
+    sub-left
+    mul-number-len
+    shared-slice-read-number-len
+    is-end-requires
+    number-len-requires
+    add-sum
+    add-sum-2
+    add-j
+    loop-less
+    loop-again
+    returns)

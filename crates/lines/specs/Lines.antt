@@ -1,0 +1,79 @@
+-- A line of any form, as text. A line is its key and then its numbers, each with a comma after it or, the last, with
+-- LF.
+--   oneForm, rowForm       a line of one number between bounds; a row of w numbers, the last perhaps an end
+--   isEnd, mark            of the number that w more follow: whether it is an end; what stands after it
+--   numberText last v      a number of a line: where it is the last of a row that ends, `now` for Now
+--   numbersText f w vs     the first w numbers of vs, with their marks
+--   lineText, oneLine      a line with a key; a line of one number
+--   linesOf k f m vs       m lines with the key k, of the numbers vs; `joined` is the text of lines
+--   NumberOk, NumbersOk, LinesOk    the numbers are within the bounds of the form
+-- Assumes nothing.
+use mathlib.Core.Bool.{Bool, true, false, cond}
+use mathlib.Core.List.{List, [], _∷_, _++_}
+use Prim.Native.Nat.{ℕ, zero, suc, _≤_}
+use lib.Dec.{eqb}
+use lib.ListN.{drop}
+use Rattle.tables.specs.Instants.{Now}
+use Rattle.decimals.specs.Decimals.{dec}
+use Rattle.lines.specs.declared.form.Form.{Form}
+
+abbrev pub oneForm : ℕ → ℕ → Form
+oneForm least most = record { width = 1; ended = false; least = least; most = most }
+
+abbrev pub rowForm : ℕ → Bool → Form
+rowForm width ended = record { width = width; ended = ended; least = 0; most = Now }
+
+abbrev pub isEnd : Form → ℕ → Bool
+isEnd f zero = f .ended
+isEnd f (suc w) = false
+
+-- [01:The text] "each ended by one LF byte"; "Row numbers are joined by commas."
+abbrev pub mark : ℕ → ℕ
+mark zero = 10
+mark (suc w) = 44
+
+-- the word `now`
+abbrev pub nowWord : List ℕ
+nowWord = 110 ∷ 111 ∷ 119 ∷ []
+
+-- [01:The text] "The fourth number of an edge or ref is `now` where it is 4294967295"
+unfoldable pub numberText : Bool → ℕ → List ℕ
+numberText false v = dec v
+numberText true v = cond (eqb v Now) nowWord (dec v)
+
+unfoldable pub numbersText : Form → ℕ → List ℕ → List ℕ
+numbersText f zero vs = []
+numbersText f (suc w) [] = []
+numbersText f (suc w) (v ∷ vs) = numberText (isEnd f w) v ++ (mark w ∷ numbersText f w vs)
+
+-- [01:The text] "Lines `key=value`"
+abbrev pub lineText : List ℕ → Form → List ℕ → List ℕ
+lineText k f vs = k ++ numbersText f (f .width) vs
+
+abbrev pub oneLine : List ℕ → ℕ → List ℕ
+oneLine k v = lineText k (oneForm 0 Now) (v ∷ [])
+
+unfoldable pub linesOf : List ℕ → Form → ℕ → List ℕ → List (List ℕ)
+linesOf k f zero vs = []
+linesOf k f (suc m) vs = lineText k f vs ∷ linesOf k f m (drop (f .width) vs)
+
+unfoldable pub joined : List (List ℕ) → List ℕ
+joined [] = []
+joined (x ∷ xs) = x ++ joined xs
+
+abbrev pub linesText : List ℕ → Form → ℕ → List ℕ → List ℕ
+linesText k f m vs = joined (linesOf k f m vs)
+
+abbrev pub NumberOk : Form → Bool → ℕ → Type 0
+NumberOk f false v = (f .least ≤ v) × (v ≤ f .most)
+NumberOk f true v = v ≤ Now
+
+-- vs has w numbers at least, and its first w are within their bounds
+abbrev pub NumbersOk : Form → ℕ → List ℕ → Type 0
+NumbersOk f zero vs = Unit {0}
+NumbersOk f (suc w) [] = ⊥
+NumbersOk f (suc w) (v ∷ vs) = NumberOk f (isEnd f w) v × NumbersOk f w vs
+
+abbrev pub LinesOk : Form → ℕ → List ℕ → Type 0
+LinesOk f zero vs = Unit {0}
+LinesOk f (suc m) vs = NumbersOk f (f .width) vs × LinesOk f m (drop (f .width) vs)

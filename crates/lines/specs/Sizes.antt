@@ -1,0 +1,30 @@
+-- How many bytes lines have, so that counts and places fit the code's numbers.
+--   mostNumber, mostKey    at most so many bytes to a number, and to a key
+--   mostWidth, mostLine    at most so many numbers to a line, and bytes
+--   mostLines              at most so many lines to a run
+--   Long x most n          x has n bytes, and they are at most `most`
+-- Assumes nothing.
+use mathlib.Core.Path.{_≡_}
+use mathlib.Core.List.{List}
+use Prim.Native.Nat.{ℕ, _+_, _*_, _≤_}
+use lib.ListN.{length}
+
+-- the digits of 4294967295
+abbrev pub mostNumber : ℕ
+mostNumber = 10
+
+abbrev pub mostKey : ℕ
+mostKey = 8
+
+abbrev pub mostWidth : ℕ
+mostWidth = 8
+
+abbrev pub mostLine : ℕ
+mostLine = mostKey + mostWidth * (mostNumber + 1)
+
+abbrev pub mostLines : ℕ
+mostLines = 4096
+
+pub record Long (x : List ℕ) (most n : ℕ) : Type 0 where
+  pub count : n ≡ length x
+  pub small : n ≤ most

@@ -1,0 +1,149 @@
+// Writing lines, and how many bytes they have: a writer counts first, so that a refusal writes nothing.
+ghost use mathlib.Core.Path.{_≡_};
+ghost use mathlib.Core.List.{[], _∷_};
+ghost use Prim.Native.Nat.{_+_, _*_, _≤_};
+ghost use lib.ListN.{length, drop};
+ghost use Rattle.ground.specs.Stores.{Put};
+ghost use Rattle.lines.specs.Lines.{numberText, numbersText, oneLine, linesText};
+ghost use Rattle.lines.specs.Sizes.{Long, mostKey, mostWidth, mostLines, mostNumber, mostLine};
+use super::form::Form;
+use super::form::is_end;
+use super::form::mark_after;
+use super::form::one_form;
+use decimals::decimal_width;
+use decimals::write_decimal;
+use tables::label::NOW;
+
+// Puts the bytes at place at, and returns the place after them.
+fn put(out: &mut [u8], at: usize, bytes: &[u8]) -> usize
+    requires { ⌜ at + length (now bytes) ≤ length (now out) ⌝ }
+    ensures { λ r. ⌜ Put (now (out .entry)) at (now (bytes .entry)) (now (out .exit)) r ⌝ }
+{
+    let mut i = at;
+    let mut j = 0;
+    while j < bytes.len() {
+        out[i] = bytes[j];
+        i += 1;
+        j += 1;
+    }
+    i
+}
+
+// Puts a number of a line at place at: an end, if last.
+fn write_number(out: &mut [u8], at: usize, v: u32, last: bool) -> usize
+    requires { ⌜ at + length (numberText last v) ≤ length (now out) ⌝ }
+    ensures { λ r. ⌜ Put (now (out .entry)) at (numberText last v) (now (out .exit)) r ⌝ }
+{
+    if last {
+        if v == NOW {
+            return put(out, at, b"now");
+        }
+        return write_decimal(out, at, v);
+    }
+    write_decimal(out, at, v)
+}
+
+// Puts the numbers of a line of form f at place at: those of table from index base on.
+fn write_numbers(out: &mut [u8], at: usize, f: Form, table: &[u32], base: usize) -> usize
+    requires { ⌜ (base + f .width ≤ length (now table))
+        × (at + length (numbersText f (f .width) (drop base (now table))) ≤ length (now out)) ⌝ }
+    ensures { λ r. ⌜ Put (now (out .entry)) at (numbersText f (f .width) (drop base (now (table .entry))))
+        (now (out .exit)) r ⌝ }
+{
+    let mut i = at;
+    let mut left = f.width;
+    let mut j = base;
+    while 0 < left {
+        left -= 1;
+        i = write_number(out, i, table[j], is_end(f, left));
+        out[i] = mark_after(left);
+        i += 1;
+        j += 1;
+    }
+    i
+}
+
+// Puts m lines with the key at place at, of the numbers of table.
+pub fn write_lines(out: &mut [u8], at: usize, key: &[u8], f: Form, table: &[u32], m: usize) -> usize
+    requires { ⌜ (m * f .width ≤ length (now table))
+        × (at + length (linesText (now key) f m (now table)) ≤ length (now out)) ⌝ }
+    ensures { λ r. ⌜ Put (now (out .entry)) at (linesText (now (key .entry)) f m (now (table .entry)))
+        (now (out .exit)) r ⌝ }
+{
+    let mut i = at;
+    let mut left = m;
+    let mut j = 0;
+    while 0 < left {
+        i = put(out, i, key);
+        i = write_numbers(out, i, f, table, j);
+        j += f.width;
+        left -= 1;
+    }
+    i
+}
+
+// Puts a line of one number at place at.
+pub fn write_one(out: &mut [u8], at: usize, key: &[u8], v: u32) -> usize
+    requires { ⌜ at + length (oneLine (now key) v) ≤ length (now out) ⌝ }
+    ensures { λ r. ⌜ Put (now (out .entry)) at (oneLine (now (key .entry)) v) (now (out .exit)) r ⌝ }
+{
+    let one = [v];
+    let i = put(out, at, key);
+    write_numbers(out, i, one_form(0, NOW), &one, 0)
+}
+
+// How many bytes a number of a line has: an end, if last.
+fn number_len(v: u32, last: bool) -> usize
+    ensures { λ r. ⌜ Long (numberText last v) mostNumber r ⌝ }
+{
+    if last {
+        if v == NOW {
+            return 3;
+        }
+        return decimal_width(v);
+    }
+    decimal_width(v)
+}
+
+// How many bytes the numbers of a line have, with their marks.
+fn numbers_len(f: Form, table: &[u32], base: usize) -> usize
+    requires { ⌜ (base + f .width ≤ length (now table)) × (f .width ≤ mostWidth) ⌝ }
+    ensures { λ r. ⌜ Long (numbersText f (f .width) (drop base (now (table .entry)))) (f .width * (mostNumber + 1))
+        r ⌝ }
+{
+    let mut sum: usize = 0;
+    let mut left = f.width;
+    let mut j = base;
+    while 0 < left {
+        left -= 1;
+        sum += number_len(table[j], is_end(f, left)) + 1;
+        j += 1;
+    }
+    sum
+}
+
+// How many bytes m lines with the key have.
+pub fn lines_len(key: &[u8], f: Form, table: &[u32], m: usize) -> usize
+    requires { ⌜ (m * f .width ≤ length (now table)) × (f .width ≤ mostWidth) × (length (now key) ≤ mostKey)
+        × (m ≤ mostLines) ⌝ }
+    ensures { λ r. ⌜ Long (linesText (now (key .entry)) f m (now (table .entry))) (m * mostLine) r ⌝ }
+{
+    let mut sum: usize = 0;
+    let mut left = m;
+    let mut j = 0;
+    while 0 < left {
+        sum += key.len() + numbers_len(f, table, j);
+        j += f.width;
+        left -= 1;
+    }
+    sum
+}
+
+// How many bytes a line of one number has.
+pub fn one_len(key: &[u8], v: u32) -> usize
+    requires { ⌜ length (now key) ≤ mostKey ⌝ }
+    ensures { λ r. ⌜ Long (oneLine (now (key .entry)) v) mostLine r ⌝ }
+{
+    let one = [v];
+    key.len() + numbers_len(one_form(0, NOW), &one, 0)
+}
