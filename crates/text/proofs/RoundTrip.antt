@@ -1,0 +1,154 @@
+-- Which texts are read, as what, and where the others are refused, said by `textOf` alone: the theorems at the end.
+-- Assumes nothing.
+use mathlib.Core.List.{List, [], append-nil}
+use mathlib.Core.Path.{_≡_, refl, sym, ap, subst, _∙_}
+use mathlib.Core.Bool.{Bool, true, false}
+use mathlib.Core.Logic.{_↔_}
+use Prim.Native.Nat.{ℕ, _≤_}
+use native.Mathlib.Omega.{arith}
+use lib.Dec.{eqb}
+use lib.ListN.{length, take}
+use lib.Seq.{take-length}
+use borrow.Author.Tests.{eq-eqb, eqb-true}
+use Rattle.ground.specs.Stands.{Stands}
+use Rattle.ground.proofs.TestLaws.{by-test}
+use Rattle.ground.proofs.ListLaws.{stands-whole}
+use Rattle.tables.specs.Instants.{Now}
+use Rattle.tables.specs.Rows.{nodeWidth, edgeWidth, refWidth}
+use Rattle.tables.specs.Rules.{leastNodes, mostNodes, mostEdges, mostRefs}
+use Rattle.lines.specs.Lines.{oneForm, rowForm, joined}
+use Rattle.lines.specs.Reads.{Got, got, wrong, andThen, placeOf}
+use Rattle.lines.specs.Plans.{follow, planAt}
+use Rattle.lines.proofs.GotLaws.{by-got, got-not-wrong, got-place, wrong-place, then-got, got-then}
+use Rattle.lines.proofs.PlaceLaws.{FormOk}
+use Rattle.lines.proofs.PlanLaws.{plan-of, plan-is, plan-past, FormsOk, plan-before}
+use Rattle.text.specs.Text.{Tables, Lendable, edition, textLines, textOf}
+use Rattle.text.specs.Reads.{countsPlan, headPlan, rowsPlan, textPlan, whole, readText}
+use Rattle.text.specs.Place.{firstLines, FirstWrong}
+use Rattle.text.proofs.TextLaws.{text-prints, prints-text}
+
+-- ---- the end of the text
+
+pub whole-got : {A : Type 0} (s : List ℕ) (r : Got A) (a : A) (n : ℕ) → whole s r ≡ got a n
+    → (r ≡ got a n) × (n ≡ length s)
+whole-got s r a n e =
+    let (b, m, q, h) = got-then _ r a n e in
+    by-test (eqb m (length s))
+    (λ t. let g = rw t at h in let i : m ≡ n = cc in (q ∙ g, sym i ∙ eqb-true m (length s) t))
+    (λ t. let g = rw t at h in got-not-wrong (got a n) refl (sym g))
+
+pub whole-end : {A : Type 0} (s : List ℕ) (r : Got A) (a : A) (n : ℕ) → r ≡ got a n → n ≡ length s
+    → whole s r ≡ got a n
+whole-end s r a n e h = then-got _ r e ∙ rw (eq-eqb n (length s) h)
+
+whole-place : {A : Type 0} (s : List ℕ) (r : Got A) → placeOf (whole s r) ≡ placeOf r
+unfolding andThen placeOf
+whole-place s (got a n) = by-test (eqb n (length s)) (λ t. rw t) (λ t. rw t)
+whole-place s (wrong p) = refl
+
+-- ---- the place of a refusal
+
+one-ok : (least most : ℕ) → least ≤ most → least ≤ Now → FormOk (oneForm least most)
+one-ok least most b s = record { bounds = b; small = s }
+
+row-ok : (w : ℕ) (e : Bool) → FormOk (rowForm w e)
+row-ok w e = record { bounds = omega arith; small = omega arith }
+
+forms-ok : FormsOk textPlan
+unfolding follow countsPlan headPlan rowsPlan
+forms-ok = (
+  one-ok edition edition (omega arith) (omega arith),
+  λ e. (
+    one-ok 0 Now (omega arith) (omega arith),
+    λ a. (
+      one-ok leastNodes mostNodes (omega arith) (omega arith),
+      λ n. (
+        one-ok 0 mostEdges (omega arith) (omega arith),
+        λ m. (
+          one-ok 0 mostRefs (omega arith) (omega arith),
+          λ r. (row-ok nodeWidth false, λ ns. (row-ok edgeWidth true, λ es. (row-ok refWidth true, λ rs. tt))),
+        ),
+      ),
+    ),
+  ),
+)
+
+abbrev Reaches : List ℕ → ℕ → Type 0
+Reaches s p = (t : Tables) × (j : ℕ) × Lendable t × Stands s 0 (firstLines j t) p
+
+-- all lines of some tables stand
+reaches-all : (s : List ℕ) (t : Tables) (n : ℕ) → planAt textPlan s 0 ≡ got t n → Reaches s n
+reaches-all s t n e =
+    let (ls, prints, st) = plan-is textPlan s 0 t n e in
+    let (q, o) = prints-text t ls prints in
+    let all : take (length ls) (textLines t) ≡ ls = ap (take (length ls)) (sym q) ∙ take-length ls in
+    (t, length ls, o, subst (λ (x : List (List ℕ)). Stands s 0 (joined x) n) (sym all) st)
+
+-- some lines of some tables stand, and then none
+reaches-some : (s : List ℕ) (p : ℕ) → planAt textPlan s 0 ≡ wrong p → Reaches s p
+reaches-some s p e =
+    let r = plan-before textPlan s 0 p forms-ok e in
+    let (q, o) = prints-text (r .told) (r .all) (r .prints) in
+    (r .told, r .count, o, subst (λ (ls : List (List ℕ)). Stands s 0 (joined (take (r .count) ls)) p) q (r .stands))
+
+reaches : (s : List ℕ) (p : ℕ) → readText s ≡ wrong p → Reaches s p
+unfolding readText
+reaches s p e =
+    let h : placeOf (planAt textPlan s 0) ≡ p = sym (whole-place s (planAt textPlan s 0)) ∙ wrong-place _ e in
+    by-got (planAt textPlan s 0)
+    (λ t n g. subst (Reaches s) (sym (got-place _ g) ∙ h) (reaches-all s t n g))
+    (λ q g. subst (Reaches s) (sym (wrong-place _ g) ∙ h) (reaches-some s q g))
+
+goes-past : (s : List ℕ) (p : ℕ) → readText s ≡ wrong p → (t : Tables) (j n : ℕ) → Lendable t
+    → Stands s 0 (firstLines j t) n → n ≤ p
+unfolding readText
+goes-past s p e t j n o st =
+    omega (
+      arith,
+      plan-past textPlan t (textLines t) s 0 j n (text-prints t o) st,
+      sym (whole-place s (planAt textPlan s 0)) ∙ wrong-place _ e,
+    )
+
+-- ---- the theorems
+
+-- [demand 2] "Tables written as text read back as the same tables"
+pub read-of-write : (t : Tables) → Lendable t → readText (textOf t) ≡ got t (length (textOf t))
+unfolding readText
+read-of-write t o =
+    let all = plan-of textPlan t (textLines t) (textOf t) 0 [] (text-prints t o) (sym (append-nil (textOf t))) in
+    whole-end (textOf t) _ t (length (textOf t)) (all ∙ ap (got t) (omega arith)) refl
+
+-- [demand 2] "and accepted text written again is the same text"
+pub write-of-read : (s : List ℕ) (t : Tables) (n : ℕ) → readText s ≡ got t n
+    → (s ≡ textOf t) × (n ≡ length s) × Lendable t
+unfolding readText
+write-of-read s t n e =
+    let (r, end) = whole-got s (planAt textPlan s 0) t n e in
+    let (ls, prints, st) = plan-is textPlan s 0 t n r in
+    let (q, o) = prints-text t ls prints in
+    (stands-whole s (textOf t) n (subst (λ (x : List (List ℕ)). Stands s 0 (joined x) n) q st) end, end, o)
+
+-- a text is accepted exactly if it is the text of some tables within the sizes
+pub accepted : (s : List ℕ)
+    → ((t : Tables) × (readText s ≡ got t (length s))) ↔ ((t : Tables) × Lendable t × (s ≡ textOf t))
+accepted s = (
+  λ (t, e). let (q, n, o) = write-of-read s t (length s) e in (t, o, q),
+  λ (t, o, q). (t, subst (λ (x : List ℕ). readText x ≡ got t (length x)) (sym q) (read-of-write t o)),
+)
+
+-- and of one only
+pub text-unique : (t u : Tables) → Lendable t → Lendable u → textOf t ≡ textOf u → t ≡ u
+text-unique t u a b e = same (sym (read-of-write t a) ∙ ap readText e ∙ read-of-write u b)
+  where
+    same : {n m : ℕ} → got t n ≡ got u m → t ≡ u
+    same q = cc
+
+-- the place of a refusal is the start of the first wrong line, and there is one such place
+pub refused : (s : List ℕ) (p : ℕ) → readText s ≡ wrong p → FirstWrong s p
+refused s p e = record { reached = reaches s p e; furthest = goes-past s p e }
+
+pub place-unique : (s : List ℕ) (p q : ℕ) → FirstWrong s p → FirstWrong s q → p ≡ q
+place-unique s p q a b =
+    let (t, j, o, x) = a .reached in
+    let (u, k, r, y) = b .reached in
+    omega (arith, b .furthest t j p o x, a .furthest u k q r y)

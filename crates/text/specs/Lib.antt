@@ -1,0 +1,5 @@
+pub mod Text
+pub mod Reads
+pub mod Sizes
+pub mod Answers
+pub mod Place

@@ -1,0 +1,4 @@
+// The text of tables: read text, write text.
+pub mod forms;
+pub mod read;
+pub mod write;
