@@ -1,0 +1,110 @@
+// The public calls. None has a `requires`: each takes tables, numbers and text of every kind, does its own checking and
+// ends with one answer of the list. Each promise determines the answer and every number and byte then held by what was
+// lent, on refusals too.
+ghost use mathlib.Core.Path.{_≡_};
+ghost use Rattle.answers.specs.Numbers.{numbers};
+ghost use Rattle.verdict.specs.Checked.{Checked};
+ghost use Rattle.snapshot.specs.Answers.{Snapshot};
+ghost use Rattle.repair.specs.Says.{Repaired};
+ghost use Rattle.text.specs.Text.{lent};
+ghost use Rattle.text.specs.Reads.{readText};
+ghost use Rattle.text.specs.Answers.{Taken, Written};
+ghost use Rattle.bindlewort.specs.Given.{told, Given, GivenReading};
+use answers::Answer;
+
+// An answer in document 01's numbers.
+#[repr(C)]
+pub struct Answered {
+    pub code: u32,
+    pub instant: u32,
+    pub place: u32,
+}
+
+// What read text gives: its answer, the start and how many rows each table has.
+#[repr(C)]
+pub struct Reading {
+    pub answer: Answered,
+    pub start: u32,
+    pub nodes: u32,
+    pub edges: u32,
+    pub refs: u32,
+}
+
+fn tell(a: Answer) -> Answered
+    ensures { λ r. ⌜ told r ≡ numbers a ⌝ }
+{
+    Answered {
+        code: a.code(),
+        instant: a.instant(),
+        place: a.place(),
+    }
+}
+
+// Check: the earliest instant with a fault, there the smallest code, and there the smallest place.
+#[no_mangle]
+pub extern "C" fn bw_check(start: u32, nodes: &[u32], edges: &[u32], refs: &[u32]) -> Answered
+    ensures { λ r. ⌜ Given (Checked start (now (nodes .entry)) (now (edges .entry)) (now (refs .entry))) r ⌝ }
+{
+    tell(verdict::check(start, nodes, edges, refs))
+}
+
+// Snapshot: the root and what it contains at t, a row for each node.
+#[no_mangle]
+pub extern "C" fn bw_snapshot(
+    start: u32,
+    nodes: &[u32],
+    edges: &[u32],
+    refs: &[u32],
+    t: u32,
+    out: &mut [u32],
+) -> Answered
+    ensures { λ r. ⌜ Given (λ a. Snapshot start (now (nodes .entry)) (now (edges .entry)) (now (refs .entry)) t
+        (now (out .entry)) a (now (out .exit))) r ⌝ }
+{
+    tell(snapshot::snapshot(start, nodes, edges, refs, t, out))
+}
+
+// Repair: each child gets, from its first start to its last end, the parent of the row that started last.
+#[no_mangle]
+pub extern "C" fn bw_repair(start: u32, nodes: &[u32], edges: &mut [u32]) -> Answered
+    ensures { λ r. ⌜ Given (λ a. Repaired start (now (nodes .entry)) (now (edges .entry)) a (now (edges .exit))) r ⌝ }
+{
+    tell(repair::repair(start, nodes, edges))
+}
+
+// Write text: the text of the tables, whatever their numbers.
+#[no_mangle]
+pub extern "C" fn bw_write_text(
+    start: u32,
+    nodes: &[u32],
+    edges: &[u32],
+    refs: &[u32],
+    out: &mut [u8],
+) -> Answered
+    ensures { λ r. ⌜ Given (λ a. Written (lent start (now (nodes .entry)) (now (edges .entry)) (now (refs .entry))) a
+        (now (out .entry)) (now (out .exit))) r ⌝ }
+{
+    tell(text::write::write_text(start, nodes, edges, refs, out))
+}
+
+// Read text: the tables that the text holds, at the front of those that are lent.
+#[no_mangle]
+pub extern "C" fn bw_read_text(
+    text: &[u8],
+    nodes: &mut [u32],
+    edges: &mut [u32],
+    refs: &mut [u32],
+) -> Reading
+    ensures { λ r. ⌜ GivenReading (λ x. Taken (readText (now (text .entry))) x (now (nodes .entry))
+        (now (edges .entry)) (now (refs .entry)) (now (nodes .exit)) (now (edges .exit)) (now (refs .exit))) r ⌝ }
+{
+    let x = text::read::read_text(text, nodes, edges, refs);
+    let a = x.answer;
+    Reading {
+        answer: tell(a),
+        start: x.start,
+        nodes: x.nodes,
+        edges: x.edges,
+        refs: x.refs,
+    }
+}
