@@ -1,0 +1,103 @@
+//! Check and repair beside the model on seeded random histories: sound, hurt and wild ones. Every code that a call can give
+//! must be met, and no other.
+
+use bindlewort_tests::compare::{self, rounds, Tally};
+use bindlewort_tests::histories::{any, grown, wild, History};
+use bindlewort_tests::model;
+use bindlewort_tests::random::Random;
+use bindlewort_tests::NOW;
+
+#[test]
+fn check_agrees_with_the_model() {
+    let random = &mut Random::seeded(11);
+    let tally = &mut Tally::of("check");
+    for _ in 0..80_000 * rounds() {
+        let history = any(random);
+        compare::check(tally, history.start, &history.nodes, &history.edges, &history.refs);
+    }
+    tally.met_exactly(&[0, 1, 2, 3, 4, 5, 11, 12, 13, 14, 15, 16]);
+}
+
+#[test]
+fn repair_agrees_with_the_model() {
+    let random = &mut Random::seeded(12);
+    let tally = &mut Tally::of("repair");
+    for _ in 0..60_000 * rounds() {
+        let history = any(random);
+        compare::repair(tally, history.start, &history.nodes, &history.edges);
+    }
+    tally.met_exactly(&[0, 1, 2, 3, 4, 22]);
+}
+
+#[test]
+fn grown_histories_are_accepted_and_need_no_repair() {
+    let random = &mut Random::seeded(13);
+    let (checks, repairs) = (&mut Tally::of("check"), &mut Tally::of("repair"));
+    for _ in 0..10_000 * rounds() {
+        let (nodes, steps) = (random.between(1, 12), random.between(0, 60));
+        let history = grown(random, nodes, steps);
+        compare::check(checks, history.start, &history.nodes, &history.edges, &history.refs);
+        let (said, _) = compare::repair(repairs, history.start, &history.nodes, &history.edges);
+        assert_eq!(said.place, 0, "an accepted history has nothing to repair: {history:?}");
+    }
+    checks.met_exactly(&[0]);
+    repairs.met_exactly(&[0]);
+}
+
+/// After repair no two rows into one node overlap and none leaves a gap, and a second repair finds nothing to do.
+#[test]
+fn repaired_histories_have_neither_overlap_nor_gap() {
+    let random = &mut Random::seeded(14);
+    let (checks, repairs) = (&mut Tally::of("check"), &mut Tally::of("repair"));
+    let mut mended = 0;
+    while mended < 5_000 * rounds() {
+        let history = any(random);
+        let (said, edges) = compare::repair(repairs, history.start, &history.nodes, &history.edges);
+        if said.code == 0 && said.place > 0 {
+            mended += 1;
+            let after = compare::check(checks, history.start, &history.nodes, &edges, &[]);
+            assert!([0, 13, 14].contains(&after.code), "{after:?} after the repair of {history:?}");
+            let (again, _) = compare::repair(repairs, history.start, &history.nodes, &edges);
+            assert_eq!((again.code, again.place), (0, 0), "a second repair of {history:?}");
+        }
+    }
+    checks.met_exactly(&[0, 13, 14]);
+}
+
+/// The model looks at the instants next to the numbers in the rows; this holds it to trying every instant.
+#[test]
+fn the_model_misses_no_instant() {
+    let random = &mut Random::seeded(15);
+    let mut faulty = 0;
+    for _ in 0..5_000 * rounds() {
+        let History { start, nodes, edges, refs } = wild(random);
+        let said = model::check(start, &nodes, &edges, &refs);
+        assert_eq!(said, model::check_every_instant(start, &nodes, &edges, &refs, 25));
+        faulty += usize::from(said.code >= 11);
+    }
+    assert!(faulty > 1_000, "only {faulty} of the histories have a fault");
+}
+
+/// Each number of sound histories set to one extreme after the other.
+#[test]
+fn extremes_in_every_place() {
+    let random = &mut Random::seeded(16);
+    let (checks, repairs) = (&mut Tally::of("check"), &mut Tally::of("repair"));
+    let extremes = |n: u32| [0, 1, 2, 3, 4, 5, 6, 65_535, 65_536, n.wrapping_sub(1), n.wrapping_add(1), NOW - 1, NOW];
+    for _ in 0..5 * rounds() {
+        let sound = grown(random, 8, 60);
+        for table in 0..3 {
+            let numbers = [&sound.nodes, &sound.edges, &sound.refs][table];
+            for (place, &number) in numbers.iter().enumerate() {
+                for other in extremes(number) {
+                    let mut history = sound.clone();
+                    [&mut history.nodes, &mut history.edges, &mut history.refs][table][place] = other;
+                    compare::check(checks, history.start, &history.nodes, &history.edges, &history.refs);
+                    compare::repair(repairs, history.start, &history.nodes, &history.edges);
+                }
+            }
+        }
+    }
+    checks.met_exactly(&[0, 3, 4, 5, 11, 12, 13, 14, 15, 16]);
+    repairs.met_exactly(&[0, 3, 4, 22]);
+}

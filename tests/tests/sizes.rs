@@ -1,0 +1,153 @@
+//! Tables at, below and past each limit, and accepted histories of full size.
+
+use bindlewort_tests::compare::{self, Tally};
+use bindlewort_tests::histories::{chain, late_fault, most_instants, ward, History, Size};
+use bindlewort_tests::NOW;
+
+/// Tables of so many numbers that obey the row rules where they are whole rows: elements, rows into them that follow one
+/// another, no references in force at an instant without their nodes.
+fn tables(nodes: usize, edges: usize, refs: usize) -> History {
+    let fill = |length: usize, row: &dyn Fn(u32) -> Vec<u32>| (0u32..).flat_map(row).take(length).collect::<Vec<u32>>();
+    History {
+        start: 7,
+        nodes: fill(nodes, &|i| vec![[0, 4, 1][(i as usize).min(2)], 1, 0]),
+        edges: fill(edges, &|i| match i {
+            0 => vec![0, 1, 7, NOW],
+            1 => vec![0, 2, 7, NOW],
+            _ => vec![0, 3, 100 + 10 * i, 109 + 10 * i],
+        }),
+        refs: fill(refs, &|i| vec![1, 2, 7 + i, NOW - i]),
+    }
+}
+
+/// Around the limit of a table: lengths in numbers, and whether they are in size.
+fn lengths(width: usize, least: usize, most: usize) -> Vec<(usize, bool)> {
+    let mut all = vec![];
+    for rows in [0, 1, 2, 8, most - 1, most, most + 1, 2 * most] {
+        for more in 0..width {
+            all.push((rows * width + more, more == 0 && rows >= least && rows <= most));
+        }
+    }
+    all
+}
+
+#[test]
+fn every_length_of_one_table_is_judged() {
+    let checks = &mut Tally::of("check");
+    let repairs = &mut Tally::of("repair");
+    for (table, width, least, most) in [(0, 3, 1, 1_024), (1, 4, 0, 2_048), (2, 4, 0, 1_024)] {
+        for (length, fits) in lengths(width, least, most) {
+            let mut sizes = [3 * 8, 4 * 8, 4 * 8];
+            sizes[table] = length;
+            let history = tables(sizes[0], sizes[1], sizes[2]);
+            let said = compare::check(checks, history.start, &history.nodes, &history.edges, &history.refs);
+            assert_eq!(said.code != 1, fits, "check of table {table} with {length} numbers");
+            assert!(fits || said.place as usize == table, "check of table {table} with {length} numbers");
+            if table < 2 {
+                let (said, _) = compare::repair(repairs, history.start, &history.nodes, &history.edges);
+                assert_eq!(said.code != 1, fits, "repair of table {table} with {length} numbers");
+                assert!(fits || said.place as usize == table, "repair of table {table} with {length} numbers");
+            }
+        }
+    }
+    checks.met_exactly(&[0, 1, 4, 15, 16]);
+    repairs.met_exactly(&[0, 1, 4]);
+}
+
+#[test]
+fn the_first_table_out_of_size_is_named_before_all_else() {
+    let tally = &mut Tally::of("check");
+    for wrong in 0..8usize {
+        let length = |table: usize, right: usize| if wrong & (1 << table) == 0 { right } else { right + 1 };
+        let mut history = tables(length(0, 24), length(1, 32), length(2, 32));
+        history.start = NOW;
+        let said = compare::check(tally, history.start, &history.nodes, &history.edges, &history.refs);
+        let expected = if wrong == 0 { (2, 0) } else { (1, wrong.trailing_zeros()) };
+        assert_eq!((said.code, said.place), expected);
+    }
+    tally.met_exactly(&[1, 2]);
+}
+
+#[test]
+fn start_at_the_last_instants() {
+    let tally = &mut Tally::of("check");
+    let history = History::of_elements(1).with_edges(&[[0, 1, NOW - 1, NOW]]);
+    for (start, code) in [(NOW - 2, 0), (NOW - 1, 0), (NOW, 2)] {
+        assert_eq!(compare::check(tally, start, &history.nodes, &history.edges, &[]).code, code);
+    }
+    tally.met_exactly(&[0, 2]);
+}
+
+/// The instants at which a row starts or has just ended.
+fn change_instants(history: &History) -> usize {
+    let mut all: Vec<u32> = history
+        .edges
+        .chunks(4)
+        .chain(history.refs.chunks(4))
+        .flat_map(|row| [row[2], row[3].wrapping_add(1)])
+        .filter(|&t| t > 0)
+        .collect();
+    all.push(0);
+    all.sort_unstable();
+    all.dedup();
+    all.len()
+}
+
+fn is_full(history: &History) -> bool {
+    [history.nodes.len(), history.edges.len(), history.refs.len()] == [3 * 1_024, 4 * 2_048, 4 * 1_024]
+}
+
+#[test]
+fn full_size_histories_are_accepted() {
+    let tally = &mut Tally::of("check");
+    for history in [ward(Size::FULL), chain(Size::FULL), most_instants(Size::FULL)] {
+        assert!(is_full(&history));
+        compare::check(tally, history.start, &history.nodes, &history.edges, &history.refs);
+    }
+    tally.met_exactly(&[0]);
+    assert_eq!(change_instants(&most_instants(Size::FULL)), 5_119);
+}
+
+#[test]
+fn a_fault_at_the_last_instant_of_a_full_size_history_is_found() {
+    let tally = &mut Tally::of("check");
+    let history = late_fault(Size::FULL);
+    assert!(is_full(&history));
+    let said = compare::check(tally, history.start, &history.nodes, &history.edges, &history.refs);
+    assert_eq!((said.code, said.instant, said.place), (13, 5_118, 1));
+}
+
+#[test]
+fn full_size_histories_are_repaired() {
+    let tally = &mut Tally::of("repair");
+    for sound in [ward(Size::FULL), chain(Size::FULL), most_instants(Size::FULL)] {
+        let (said, _) = compare::repair(tally, sound.start, &sound.nodes, &sound.edges);
+        assert_eq!((said.code, said.place), (0, 0));
+        // Every end lost: repair finds those of the earlier stays again.
+        let mut open = sound.clone();
+        for row in open.edges.chunks_mut(4) {
+            row[3] = NOW;
+        }
+        let (said, mended) = compare::repair(tally, open.start, &open.nodes, &open.edges);
+        let lost = sound.edges.chunks(4).zip(mended.chunks(4)).filter(|(row, new)| row[3] != new[3]).count();
+        assert!(said.place > 0 && lost < 1_024, "{lost} ends are lost");
+    }
+    tally.met_exactly(&[0]);
+}
+
+/// One number of a full-size history changed, in places spread over all rows.
+#[test]
+fn full_size_histories_hurt_in_one_place() {
+    let tally = &mut Tally::of("check");
+    let repairs = &mut Tally::of("repair");
+    for sound in [ward(Size::FULL), chain(Size::FULL)] {
+        for place in (0..sound.edges.len()).step_by(1_021) {
+            let mut history = sound.clone();
+            history.edges[place] = history.edges[place].wrapping_add(1) % 1_030;
+            compare::check(tally, history.start, &history.nodes, &history.edges, &history.refs);
+            compare::repair(repairs, history.start, &history.nodes, &history.edges);
+        }
+    }
+    tally.met_exactly(&[0, 4, 11, 12, 13, 14]);
+    repairs.met_exactly(&[0, 4, 22]);
+}
