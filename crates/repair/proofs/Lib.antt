@@ -8,4 +8,3 @@ pub mod NewEndLaws
 pub mod StayLaws
 pub mod LeftLaws
 pub mod Repaired
-pub mod Starred

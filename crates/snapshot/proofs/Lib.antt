@@ -11,4 +11,3 @@ pub mod RowLaws
 pub mod ShowLaws
 pub mod AnswersLaws
 pub mod Contained
-pub mod StarredCases
