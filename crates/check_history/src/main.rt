@@ -1,5 +1,6 @@
 // Document 01's program `check`: reads a text from standard input, and prints the code, the instant and the place of
 // read text if that refused, else of check.
+ghost use Rattle.check_history.specs.Says.{Says};
 use answers::Answer;
 use libc::STDIN_FILENO;
 use libc::STDOUT_FILENO;
@@ -11,8 +12,10 @@ use verdict::check;
 
 const MOST_INPUT: usize = 32768;
 
-// What the text answers.
-fn answer(text: &[u8]) -> Answer {
+// What the text answers. The tables have room for every history within the sizes.
+fn answer(text: &[u8]) -> Answer
+    ensures { λ r. ⌜ Says (now (text .entry)) r ⌝ }
+{
     let mut nodes = [0u32; 3072];
     let mut edges = [0u32; 8192];
     let mut refs = [0u32; 4096];

@@ -1,31 +1,19 @@
-use native.Mathlib.Omega.{arith}
-use mathlib.Core.Path.{_≡_, sym, ap, _∙_}
-use mathlib.Core.List.{List, _++_}
-use Prim.Native.Nat.{ℕ, _*_, _≤_}
-use lib.ListN.{length, length-append}
+use mathlib.Core.Path.{_≡_, refl, sym, _∙_}
+use mathlib.Core.Bool.{false}
 use lib.Seq.{length-take-le}
-use Rattle.tables.specs.Rows.{nodeWidth, edgeWidth, refWidth}
-use Rattle.text.specs.declared.read.Reading.{Reading}
-use Rattle.text.proofs.CallLaws.{read-holds}
+use Rattle.answers.specs.Numbers.{refuses}
 use borrow.Author.Needs.{needs}
+use Rattle.check_history.proofs.SaysLaws.{Fits, unread-says, read-fits, read-says}
 use Rattle.check_history.proofs.answer.Statement.{statement}
 use Rattle.check_history.proofs.answer.Tie as tie
 
--- a table that begins with the rows that were read holds as many numbers as these have
-holds : (a b d : List ℕ) → a ≡ b ++ d → length b ≤ length a
-holds a b d e = omega (arith, ap length e, length-append b d)
+-- read text did not refuse
+passed : (c : tie.Else1) → refuses (c .before .before .before .before .before .read-text .result .answer) ≡ false
+passed c = sym (c .before .refuses .ensures) ∙ c .if1 .left
 
--- where read text did not refuse, each lent table is long enough for the rows that it was given
-fits : (c : tie.Else1) → (c .before .before .before .before .before .read-text .result .nodes * nodeWidth ≤ length (c .before .before .before .before .before .read-text .last .1 .0))
-    × (c .before .before .before .before .before .read-text .result .edges * edgeWidth ≤ length (c .before .before .before .before .before .read-text .last .1 .1 .0))
-    × (c .before .before .before .before .before .read-text .result .refs * refWidth ≤ length (c .before .before .before .before .before .read-text .last .1 .1 .1 .0))
-fits c =
-    let call = c .before .before .before .before .before .read-text in
-    let (t, f) = read-holds (call .ensures) (sym (c .before .refuses .ensures) ∙ c .if1 .left) in (
-      omega (arith, ap (λ (r : Reading). r .nodes) (f .reading), holds _ (t .nodes) _ (f .nodes)),
-      omega (arith, ap (λ (r : Reading). r .edges) (f .reading), holds _ (t .edges) _ (f .edges)),
-      omega (arith, ap (λ (r : Reading). r .refs) (f .reading), holds _ (t .refs) _ (f .refs)),
-    )
+fits : (c : tie.Else1) → let call = c .before .before .before .before .before .read-text in
+    Fits (call .result) (call .last .1 .0) (call .last .1 .1 .0) (call .last .1 .1 .1 .0)
+fits c = read-fits (c .before .before .before .before .before .read-text .ensures) (passed c)
 
 slice-aggregate-read-text : tie.Need-slice-aggregate-read-text
 slice-aggregate-read-text c = search needs
@@ -43,7 +31,9 @@ refuses-requires : tie.Need-refuses-requires
 refuses-requires c κs = search needs
 
 returns : tie.Need-returns
-returns c = search needs
+returns c =
+    let call = c .before .before .before .before .before .read-text in
+    unread-says (call .ensures) refl refl refl (sym (c .before .refuses .ensures) ∙ c .if1 .taken)
 
 cast-n : tie.Need-cast-n
 cast-n c = search needs
@@ -85,7 +75,9 @@ check-requires : tie.Need-check-requires
 check-requires c κs = search needs
 
 returns-2 : tie.Need-returns-2
-returns-2 c = search needs
+returns-2 c =
+    let d = c .before .before .before .before .before .before .before in
+    read-says (d .before .before .before .before .before .read-text .ensures) (passed d) (c .check .ensures)
 
 pub answer-spec : {M : Type 1} → statement M
 answer-spec =
