@@ -1,5 +1,5 @@
 -- The paper's numbers, by cases on the answer: the only definition that has them.
---   Numbers    code, instant, place
+--   Numbers    code, instant, place; says: these three
 --   codeOf     a fault's code
 --   placeOf    a fault's place
 --   numbers    an answer's code, instant and place

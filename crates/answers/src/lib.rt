@@ -1,5 +1,5 @@
 // What the calls answer. The paper's numbers stand in specs/Numbers.antt and, for the running program, in `code` below:
-// nowhere else.
+// nowhere else in the library.
 ghost use mathlib.Core.Path.{_≡_};
 ghost use Rattle.answers.specs.Numbers.{codeOf, placeOf, numbers, refuses};
 

@@ -1,6 +1,8 @@
 -- The decimal of a number, as bytes, and the number that stands in bytes.
---   dec n            the decimal of n
+--   nought, nine     the bytes of the digits 0 and 9
+--   dec n            the decimal of n; decF: with at most so many digits
 --   grows hi v c     the byte c is a digit, and v with that digit after it is at most hi
+--   more hi v i xs   v with the digits at the beginning of xs after it, while that is at most hi
 --   num hi i xs      the longest beginning of xs that is the decimal of a number at most hi: the number, and the
 --                    place after it, where xs begins at place i; Missing where there is none (proofs/ReadLaws.antt)
 --   numAt hi s i     the same of what is left of s at place i

@@ -10,10 +10,10 @@ use lib.ListN.{length, getD}
 use Rattle.ground.specs.Tests.{Tells}
 use Rattle.ground.proofs.TestLaws.{tells-and, tells-not, tells-lt, tells-eq}
 use Rattle.tables.specs.Instants.{Now}
-use Rattle.tables.specs.Rows.{Edge}
+use Rattle.tables.specs.Rows.{noNode, Edge}
 use Rattle.tables.specs.Rules.{mostNodes}
 use Rattle.history.specs.Faults.{Into, Out, Ended, Coming, NoneInto, Chain, Overlap, Gap, Outside, Cycle, Below}
-use Rattle.faults.specs.Slots.{None, Many, Slot, empty, single, several, Leads, Slots}
+use Rattle.faults.specs.Slots.{Many, Slot, empty, single, several, Leads, Slots}
 use Rattle.faults.specs.Stays.{Stay}
 use Rattle.faults.specs.Walks.{above, climb, Back}
 use Rattle.faults.specs.Leaves.{isMany, isAbsent, isGap, Parts}
@@ -31,7 +31,7 @@ module _ (m : ℕ) (E : ℕ → Edge) (t n : ℕ) (b : Below m E n) (few : n ≤
   small j h = omega (arith, b j h .0)
 
   -- what a slot says
-  none-into : (c : ℕ) → c < length up → getD up c 0 ≡ None → NoneInto m E t c
+  none-into : (c : ℕ) → c < length up → getD up c 0 ≡ noNode → NoneInto m E t c
   none-into c l e = go (s c l)
     where
       go : Slot (Leads E t c) (λ j. E j .parent) m (getD up c 0) → NoneInto m E t c
@@ -39,10 +39,10 @@ module _ (m : ℕ) (E : ℕ → Edge) (t n : ℕ) (b : Below m E n) (few : n ≤
       go (single j h x q u) = absurd (omega (arith, small j h))
       go (several q j k h l x y) = absurd (omega arith)
 
-  into-none : (c : ℕ) → c < length up → NoneInto m E t c → getD up c 0 ≡ None
+  into-none : (c : ℕ) → c < length up → NoneInto m E t c → getD up c 0 ≡ noNode
   into-none c l f = go (s c l)
     where
-      go : Slot (Leads E t c) (λ j. E j .parent) m (getD up c 0) → getD up c 0 ≡ None
+      go : Slot (Leads E t c) (λ j. E j .parent) m (getD up c 0) → getD up c 0 ≡ noNode
       go (empty q g) = q
       go (single j h x q u) = absurd (f j (into-of c j h x))
       go (several q j k h l x y) = absurd (f k (into-of c k l y))
@@ -68,7 +68,7 @@ module _ (m : ℕ) (E : ℕ → Edge) (t n : ℕ) (b : Below m E n) (few : n ≤
 
   pub absent-tells : (c : ℕ) → c < n → Tells (isAbsent up c) ((c ≢ 0) × NoneInto m E t c)
   absent-tells c l =
-      Iff·trans (tells-and _ _ (tells-not _ (tells-eq c 0)) (tells-eq (getD up c 0) None))
+      Iff·trans (tells-and _ _ (tells-not _ (tells-eq c 0)) (tells-eq (getD up c 0) noNode))
       (λ x. (x .0, none-into c (omega arith) (x .1)), λ x. (x .0, into-none c (omega arith) (x .1)))
 
   -- GAP: of an absent node, a row ended exactly if the first start is before t, and one comes exactly if the last end

@@ -12,12 +12,12 @@ use lib.Seq.{getD-set-same, getD-set-other}
 use Rattle.ground.proofs.LeastLaws.{before-more}
 use Rattle.ground.proofs.TestLaws.{tells-fail}
 use Rattle.tables.specs.Instants.{During, during}
-use Rattle.tables.specs.Rows.{Edge}
+use Rattle.tables.specs.Rows.{noNode, Edge}
 use Rattle.tables.specs.Rules.{mostNodes}
 use Rattle.tables.proofs.LabelLaws.{during-tells}
 use Rattle.history.specs.History.{History, Ruled}
 use Rattle.history.specs.Faults.{Below}
-use Rattle.faults.specs.Slots.{None, Many, Slot, empty, single, several, Leads, Slots}
+use Rattle.faults.specs.Slots.{Many, Slot, empty, single, several, Leads, Slots}
 
 module _ (L : ℕ → Type 0) (value : ℕ → ℕ) (i v : ℕ) where
   last-or : (k : ℕ) → k < i + 1 → (k ≡ i) ⊎ (k < i)
@@ -32,13 +32,13 @@ module _ (L : ℕ → Type 0) (value : ℕ → ℕ) (i v : ℕ) where
 
   -- row i has it, and it is the first, or one more
   module _ (small : (j : ℕ) → j < i → value j < Many) (here : L i) where
-    pub slot-first : v ≡ None → Slot L value i v → Slot L value (i + 1) (value i)
+    pub slot-first : v ≡ noNode → Slot L value i v → Slot L value (i + 1) (value i)
     slot-first e (empty q b) =
         single i (omega arith) here refl (λ k l y. ⊎-elim (λ q. q) (λ g. absurd (b k g y)) (last-or k l))
     slot-first e (single j h x q u) = absurd (omega (arith, small j h))
     slot-first e (several q j k h l x y) = absurd (omega arith)
 
-    pub slot-more : (v ≡ None → ⊥) → Slot L value i v → Slot L value (i + 1) Many
+    pub slot-more : (v ≡ noNode → ⊥) → Slot L value i v → Slot L value (i + 1) Many
     slot-more f (empty q b) = absurd (f q)
     slot-more f (single j h x q u) = several refl j i h (omega arith) x here
     slot-more f (several q j k h l x y) = several refl j k h (omega arith) x y
@@ -84,21 +84,21 @@ module _ (E : ℕ → Edge) (t i : ℕ) (up : List ℕ) (s : Slots E t i up) whe
     here : Leads E t (E i .child) i
     here = (refl, during-tells (E i .from) (E i .to) t .0 f)
 
-    pub take-first : {p : ℕ} → p ≡ E i .parent → getD up c 0 ≡ None → Slots E t (i + 1) (set up c p)
+    pub take-first : {p : ℕ} → p ≡ E i .parent → getD up c 0 ≡ noNode → Slots E t (i + 1) (set up c p)
     take-first ep e =
         rw (ec, ep)
         (slots-set E t i up (E i .parent) (b i (omega arith) .1)
         (slot-first _ (λ j. E j .parent) i (getD up (E i .child) 0) small here (rw ec at e)
         (s (E i .child) (b i (omega arith) .1))) s)
 
-    pub take-more : (getD up c 0 ≡ None → ⊥) → Slots E t (i + 1) (set up c Many)
+    pub take-more : (getD up c 0 ≡ noNode → ⊥) → Slots E t (i + 1) (set up c Many)
     take-more f =
         rw ec
         (slots-set E t i up Many (b i (omega arith) .1)
         (slot-more _ (λ j. E j .parent) i (getD up (E i .child) 0) small here (rw ec at f)
         (s (E i .child) (b i (omega arith) .1))) s)
 
--- slots that are all None are those of no row
-pub slots-none : (E : ℕ → Edge) (t n : ℕ) → Slots E t 0 (replicate n None)
+-- slots that are all noNode are those of no row
+pub slots-none : (E : ℕ → Edge) (t n : ℕ) → Slots E t 0 (replicate n noNode)
 slots-none E t n c h =
-    empty (getD-replicate n c None 0 (omega (arith, length-replicate n None))) (λ j l. absurd (omega arith))
+    empty (getD-replicate n c noNode 0 (omega (arith, length-replicate n noNode))) (λ j l. absurd (omega arith))

@@ -1,5 +1,4 @@
--- The last instant before the next change: of two properties, of one row more, of a label, of a history. Assumes
--- nothing.
+-- The last instant before the next change: of two properties, of one row more, of a label, of rows. Assumes nothing.
 use mathlib.Core.Path.{_≡_, ap, _∙_}
 use mathlib.Core.Logic.{_⊎_, inl, inr, ⊎-elim}
 use Prim.Native.Nat.{ℕ, suc, _+_, min}
@@ -9,9 +8,9 @@ use Rattle.ground.specs.Least.{Any}
 use Rattle.ground.proofs.LeastLaws.{least-missed, least-same, least-or, any-suc}
 use Rattle.tables.specs.declared.label.Label.{Label}
 use Rattle.tables.specs.Instants.{Now, instantOf, labelOf}
+use Rattle.tables.specs.Rows.{Edge, Ref}
 use Rattle.tables.proofs.LabelLaws.{instant-end}
-use Rattle.history.specs.History.{History}
-use Rattle.faults.specs.Until.{StartAfter, EndAfter, LabelAfter, After, Until}
+use Rattle.faults.specs.Until.{StartAfter, EndAfter, LabelAfter, RowsAfter, Until}
 
 module _ (P Q : ℕ → Type 0) where
   pub until-same : {u : ℕ} → ((c : ℕ) → P c → Q c) → ((c : ℕ) → Q c → P c) → Until P u → Until Q u
@@ -53,18 +52,16 @@ until-row t from to {l} {u} e v =
     let f : l .from ≡ from = ap (λ (x : Label). x .from) e in
     rw (f, q) at v
 
-pub until-both : (H : History) (t : ℕ) {a b : ℕ}
-    → Until (λ c. Any (λ i. LabelAfter t (H .edge i .from) (H .edge i .to) c) (H .edges)) a
-    → Until (λ c. Any (λ k. LabelAfter t (H .ref k .from) (H .ref k .to) c) (H .refs)) b
-    → Until (After H t) (min a b)
-until-both H t u v =
-    until-same (λ c. Edges c ⊎ Refs c) (After H t)
-    (λ c. ⊎-elim (λ (i, h, (l, x)). (l, inl (i, h, x))) (λ (k, h, (l, x)). (l, inr (k, h, x))))
-    (λ c (l, x). ⊎-elim (λ (i, h, y). inl (i, h, (l, y))) (λ (k, h, y). inr (k, h, (l, y))) x)
-    (until-or Edges Refs u v)
-  where
-    Edges : ℕ → Type 0
-    Edges c = Any (λ i. LabelAfter t (H .edge i .from) (H .edge i .to) c) (H .edges)
+module _ (m : ℕ) (E : ℕ → Edge) (k : ℕ) (R : ℕ → Ref) (t : ℕ) where
+  abbrev Edges : ℕ → Type 0
+  Edges c = Any (λ i. LabelAfter t (E i .from) (E i .to) c) m
 
-    Refs : ℕ → Type 0
-    Refs c = Any (λ k. LabelAfter t (H .ref k .from) (H .ref k .to) c) (H .refs)
+  abbrev Refs : ℕ → Type 0
+  Refs c = Any (λ j. LabelAfter t (R j .from) (R j .to) c) k
+
+  pub until-both : {a b : ℕ} → Until Edges a → Until Refs b → Until (RowsAfter m E k R t) (min a b)
+  until-both u v =
+      until-same (λ c. Edges c ⊎ Refs c) (RowsAfter m E k R t)
+      (λ c. ⊎-elim (λ (i, h, (l, x)). (l, inl (i, h, x))) (λ (j, h, (l, x)). (l, inr (j, h, x))))
+      (λ c (l, x). ⊎-elim (λ (i, h, y). inl (i, h, (l, y))) (λ (j, h, y). inr (j, h, (l, y))) x)
+      (until-or Edges Refs u v)

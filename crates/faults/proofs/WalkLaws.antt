@@ -9,7 +9,7 @@ use native.Mathlib.Omega.{arith}
 use lib.ListN.{getD}
 use borrow.Author.Tests.{lt-ltb, le-ltb}
 use Rattle.ground.proofs.Pigeonhole.{pigeonhole}
-use Rattle.faults.specs.Slots.{None}
+use Rattle.tables.specs.Rows.{noNode}
 use Rattle.faults.specs.Walks.{above, climb, Back}
 use Rattle.faults.specs.Marks.{Ends}
 
@@ -18,7 +18,7 @@ module _ (up : List ℕ) (n : ℕ) where
   unfolding above
   above-in b l = simp (lt-ltb b n l)
 
-  pub above-out : (b : ℕ) → n ≤ b → above up n b ≡ None
+  pub above-out : (b : ℕ) → n ≤ b → above up n b ≡ noNode
   unfolding above
   above-out b l = simp (le-ltb b n l)
 
@@ -46,7 +46,7 @@ module _ (up : List ℕ) (n : ℕ) where
       e : suc k ≡ k + 1
       e = omega arith
 
-  module _ (few : n ≤ None) where
+  module _ (few : n ≤ noNode) where
     climb-out : (k b : ℕ) → n ≤ b → n ≤ climb up n k b
     unfolding climb
     climb-out zero b l = l

@@ -1,6 +1,6 @@
 -- What the part of the judge after GAP answers.
---  AfterGap   r is the answer of the codes after GAP, of whatever containment rows the slots are, where no node has two
---     of them into it
+--   AfterGap   r is the answer of the codes after GAP, of whatever containment rows the slots are, where no node has
+--              two of them into it
 -- Assumes nothing.
 use mathlib.Core.Path.{_≡_}
 use mathlib.Core.List.{List}

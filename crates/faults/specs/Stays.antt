@@ -1,6 +1,6 @@
 -- The first start and the last end of each node's rows, for GAP: found once for all instants.
---  Stay    first is the smallest start of the first i rows into c, and last their largest end; Now and 0 where there is
---     none
+--   Stay    first is the smallest start of the first i rows into c, and last their largest end; Now and 0 where there
+--           is none
 --   Stays   two lists hold that for every node
 -- Assumes nothing.
 use mathlib.Core.Path.{_≡_}

@@ -1,5 +1,5 @@
 -- Walking up from a node by the slots.
---   above    one step up from node b: its slot, and None past the n nodes
+--   above    one step up from node b: its slot, and noNode past the n nodes
 --   climb    k steps up
 --   Back     the walk up from c comes back to c
 -- Assumes nothing.
@@ -9,11 +9,11 @@ use mathlib.Core.List.{List}
 use Prim.Native.Nat.{ℕ, zero, suc}
 use lib.Dec.{ltb}
 use lib.ListN.{getD}
-use Rattle.faults.specs.Slots.{None}
+use Rattle.tables.specs.Rows.{noNode}
 
 module _ (up : List ℕ) (n : ℕ) where
   unfoldable pub above : ℕ → ℕ
-  above b = cond (ltb b n) (getD up b 0) None
+  above b = cond (ltb b n) (getD up b 0) noNode
 
   unfoldable pub climb : ℕ → ℕ → ℕ
   climb zero b = b

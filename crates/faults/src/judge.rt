@@ -14,11 +14,12 @@ use super::leaves::first_gap;
 use super::leaves::first_late;
 use super::leaves::first_outside;
 use super::leaves::first_overlap;
-use super::slots::NONE;
 use super::slots::take_rows;
 use super::walk::first_back;
 use answers::Answer;
 use answers::Fault;
+use tables::judge::MOST_NODES;
+use tables::rows::NO_NODE;
 
 // The codes after GAP, where no node has two rows into it, of whatever containment rows the slots are.
 fn after_gap(n: usize, refs: &[u32], k: usize, t: u32, up: &[u32]) -> Answer
@@ -62,7 +63,7 @@ pub fn judge(
         (now last) ⌝ }
     ensures { λ r. ⌜ r ≡ faultsSay (historyOf start n (now (edges .entry)) m (now (refs .entry)) k) t ⌝ }
 {
-    let mut up = [NONE; 1024];
+    let mut up = [NO_NODE; MOST_NODES];
     take_rows(edges, m, t, &mut up);
     let overlap = first_overlap(&up, n);
     if overlap < n {
@@ -88,7 +89,7 @@ pub fn judge_shown(
     requires { ⌜ Lent start n (now edges) m (now refs) k ⌝ }
     ensures { λ r. ⌜ r ≡ shownSay (historyOf start n (now (edges .entry)) m (now (refs .entry)) k) t ⌝ }
 {
-    let mut up = [NONE; 1024];
+    let mut up = [NO_NODE; MOST_NODES];
     take_rows(edges, m, t, &mut up);
     let overlap = first_overlap(&up, n);
     if overlap < n {

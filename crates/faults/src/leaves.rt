@@ -6,7 +6,7 @@ ghost use Rattle.ground.specs.Least.{Least, least};
 ghost use Rattle.tables.specs.Rows.{refAt, HasRefs};
 ghost use Rattle.faults.specs.Leaves.{isMany, isAbsent, isGap, Parts, isAstray};
 use super::slots::MANY;
-use super::slots::NONE;
+use tables::rows::NO_NODE;
 use tables::rows::ref_attribute;
 use tables::rows::ref_in_force;
 use tables::rows::ref_target;
@@ -30,7 +30,7 @@ fn is_absent(up: &[u32], c: usize) -> bool
     requires { ⌜ c < length (now up) ⌝ }
     ensures { λ r. ⌜ r ≡ isAbsent (now (up .entry)) c ⌝ }
 {
-    (c != 0) & (up[c] == NONE)
+    (c != 0) & (up[c] == NO_NODE)
 }
 
 fn is_gap(up: &[u32], first: &[u32], last: &[u32], t: u32, c: usize) -> bool

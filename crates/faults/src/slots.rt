@@ -5,13 +5,12 @@ ghost use Rattle.tables.specs.Rows.{edgeAt, HasEdges};
 ghost use Rattle.tables.specs.Rules.{mostNodes};
 ghost use Rattle.history.specs.Faults.{Below};
 ghost use Rattle.faults.specs.Slots.{Slots};
+use tables::rows::NO_NODE;
 use tables::rows::edge_child;
 use tables::rows::edge_in_force;
 use tables::rows::edge_parent;
 
-// A slot where no row into the node is in force, and where several are.
-pub const NONE: u32 = 4294967295;
-
+// A slot where several rows into the node are in force; NO_NODE stands where none is.
 pub const MANY: u32 = 4294967294;
 
 // Row i: its parent goes into its child's slot, or MANY where the slot is taken.
@@ -23,7 +22,7 @@ fn take_row(edges: &[u32], i: usize, t: u32, up: &mut [u32])
 {
     if edge_in_force(edges, i, t) {
         let c = edge_child(edges, i) as usize;
-        if up[c] == NONE {
+        if up[c] == NO_NODE {
             up[c] = edge_parent(edges, i);
         } else {
             up[c] = MANY;
@@ -31,7 +30,7 @@ fn take_row(edges: &[u32], i: usize, t: u32, up: &mut [u32])
     }
 }
 
-// All m rows, from slots that are all NONE.
+// All m rows, from slots that are all NO_NODE.
 pub fn take_rows(edges: &[u32], m: usize, t: u32, up: &mut [u32])
     requires { ⌜ HasEdges (now edges) m × Below m (edgeAt (now edges)) (length (now up)) ×
         (length (now up) ≤ mostNodes) ⌝ }

@@ -2,8 +2,7 @@
 ghost use Rattle.ground.specs.Least.{Any};
 ghost use Rattle.tables.specs.Instants.{instantOf};
 ghost use Rattle.tables.specs.Rows.{edgeAt, refAt, HasEdges, HasRefs};
-ghost use Rattle.history.specs.History.{historyOf};
-ghost use Rattle.faults.specs.Until.{StartAfter, EndAfter, LabelAfter, After, Until};
+ghost use Rattle.faults.specs.Until.{StartAfter, EndAfter, LabelAfter, RowsAfter, Until};
 use ground::smaller;
 use tables::label::Label;
 use tables::label::NOW;
@@ -60,9 +59,9 @@ fn refs_until(refs: &[u32], k: usize, t: u32) -> u32
 }
 
 // The last instant before the smallest change instant after t; Now where there is none.
-pub fn until(start: u32, n: usize, edges: &[u32], m: usize, refs: &[u32], k: usize, t: u32) -> u32
+pub fn until(edges: &[u32], m: usize, refs: &[u32], k: usize, t: u32) -> u32
     requires { ⌜ HasEdges (now edges) m × HasRefs (now refs) k ⌝ }
-    ensures { λ r. ⌜ Until (After (historyOf start n (now (edges .entry)) m (now (refs .entry)) k) t) r ⌝ }
+    ensures { λ r. ⌜ Until (RowsAfter m (edgeAt (now (edges .entry))) k (refAt (now (refs .entry))) t) r ⌝ }
 {
     smaller(edges_until(edges, m, t), refs_until(refs, k, t))
 }

@@ -8,6 +8,7 @@ ghost use Rattle.ground.specs.Least.{Least};
 ghost use Rattle.tables.specs.Rules.{mostNodes};
 ghost use Rattle.faults.specs.Walks.{Back};
 ghost use Rattle.faults.specs.Marks.{Done, Walked, NoBack, SomeBack};
+use tables::judge::MOST_NODES;
 
 // Whether the walk up from c comes back to c.
 fn comes_back(up: &[u32], n: usize, c: usize) -> bool
@@ -74,7 +75,7 @@ fn settled(up: &[u32], n: usize) -> bool
     ensures { λ r. ⌜ (r ≡ true → NoBack (now (up .entry)) n)
         × (r ≡ false → SomeBack (now (up .entry)) n) ⌝ }
 {
-    let mut mark = [0u32; 1024];
+    let mut mark = [0u32; MOST_NODES];
     let mut start = 0;
     while start < n {
         if walk(up, n, start, &mut mark) {

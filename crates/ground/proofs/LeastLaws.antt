@@ -1,4 +1,5 @@
--- Laws of the smallest number: it is the only one, how a search finds it, and that the computed one is it. Assumes nothing.
+-- Laws of the smallest number: it is the only one, how a search finds it, and that the computed one is it. Assumes
+-- nothing.
 use mathlib.Core.Path.{_≡_, refl, sym, subst, _∙_}
 use mathlib.Core.Logic.{_⊎_, inl, inr, ⊎-elim, _↔_, Iff·rfl, Iff·trans, Dec·not, Dec·not-not}
 use mathlib.Core.Bool.{Bool, true, false, cond, false≢true}
@@ -156,7 +157,8 @@ module _ (p : ℕ → Bool) (P : ℕ → Type 0) where
       least-step n (least p n) (λ h. tells (least p n) (omega arith)) (least-tells n (λ i h. tells i (omega arith)))
       (p (least p n)) refl
 
--- a loop that looks for the smallest number at which a test passes: at its start, after a turn that did not find, where it found, at its end
+-- a loop that looks for the smallest number at which a test passes: at its start, after a turn that did
+-- not find, where it found, at its end
 module _ (p : ℕ → Bool) where
   pub search-none : Before (Passes p) 0
   search-none = before-none (Passes p)

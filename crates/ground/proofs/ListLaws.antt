@@ -1,4 +1,5 @@
--- Lists under stores, and a part that stands at a place. What `lib.ListN` and `lib.Seq` have is not said again. Assumes nothing.
+-- Lists under stores, and a part that stands at a place. What `lib.ListN` and `lib.Seq` have is not said again. Assumes
+-- nothing.
 use mathlib.Core.Path.{_≡_, refl, sym, ap, ap₂, _∙_}
 use mathlib.Core.List.{List, [], _∷_, _++_, append-assoc, append-nil}
 use Prim.Native.Nat.{ℕ, suc, _+_, _≤_, _<_}
@@ -7,12 +8,25 @@ use native.Mathlib.Nat.{add-zero}
 use native.Mathlib.Numerals.{add-one}
 use native.Mathlib.Omega.{arith}
 use lib.ListN.{length, getD, set, drop, length-append, length-drop, List·getD-eq-default}
-use lib.Seq.{sets, sets-eq, getD-set-same, getD-set-other, set-comm, getD-drop, drop-cons, drop-drop, drop-append-seam, drop-length}
+use lib.Seq.{
+  sets,
+  sets-eq,
+  getD-set-same,
+  getD-set-other,
+  set-comm,
+  getD-drop,
+  drop-cons,
+  drop-drop,
+  drop-append-seam,
+  drop-length,
+}
 use Rattle.ground.specs.Stands.{Stands}
 use Rattle.ground.specs.Stores.{Put}
+use Rattle.ground.specs.Lists.{front}
 use Rattle.ground.proofs.TestLaws.{by-lt}
 
--- what holds of every place and number below i, and of i and the number stored there, holds below i + 1: a loop that stores at its counter
+-- what holds of every place and number below i, and of i and the number stored there, holds below i + 1:
+-- a loop that stores at its counter
 pub set-below : (P : ℕ → ℕ → Type 0) (l : List ℕ) (i v : ℕ) → i < length l → ((k : ℕ) → k < i → P k (getD l k 0))
     → P i v
     → (k : ℕ) → k < i + 1 → P k (getD (set l i v) k 0)
@@ -41,7 +55,7 @@ pub sets-last : (l : List ℕ) (i : ℕ) (a : List ℕ) (c : ℕ) → sets (set 
 sets-last l i a c = sets-set l i a (i + length a) c (omega arith) ∙ sym (sets-append l i a (c ∷ []))
 
 -- a run that is stored at the front, and what stays
-pub sets-front : (l a : List ℕ) → length a ≤ length l → sets l 0 a ≡ a ++ drop (length a) l
+pub sets-front : (l a : List ℕ) → length a ≤ length l → sets l 0 a ≡ front a l
 sets-front l a h =
     let e : 0 + length a ≡ length a = omega arith in
     sets-eq a l 0 (omega arith) ∙ ap (λ (n : ℕ). a ++ drop n l) e

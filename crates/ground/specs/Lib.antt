@@ -3,3 +3,4 @@ pub mod Least
 pub mod Sums
 pub mod Stands
 pub mod Stores
+pub mod Lists

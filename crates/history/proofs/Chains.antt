@@ -120,13 +120,6 @@ module _ (m : ℕ) (E : ℕ → Edge) (t : ℕ) where
     unfolding Short
     shorten a n is h p = by-length (length is) a n is h (omega arith) p
 
-  -- a node that is on a cycle is on one of at most N rows: a walk up of N steps finds it
-  pub short-cycle : (N : ℕ) → Below m E N → (n : ℕ) → Cycle m E t n
-      → (i : ℕ) × (is : List ℕ) × Chain m E t n n (i ∷ is) × (length (i ∷ is) ≤ N)
-  short-cycle N b n (i, is, p) =
-      let (js, l, q) = shorten N b n (E i .parent) is (b i (p .0 .row) .0) (p .1) in
-      (i, js, (p .0, q), omega arith)
-
   -- [01:Instants and tables] "A parent equal to its child breaks no row rule; it is a cycle."
   pub own-parent : (n i : ℕ) → Into m E t n i → E i .parent ≡ n → Cycle m E t n
   own-parent n i p e = (i, [], (p, sym e))

@@ -59,7 +59,6 @@ use Rattle.history.proofs.ComputedLaws.{
   dangling-of,
 }
 use Rattle.history.proofs.ChangeLaws.{change-enough}
-use Rattle.history.proofs.VerdictLaws.{verdict-unique}
 
 -- one rung of a ladder: the smallest place of the faults K, of code c and below b, or what the rest of the ladder names
 pub rung : (F : Fault → Type 0) (t : ℕ) (K : ℕ → Fault) (c : ℕ)
@@ -225,6 +224,3 @@ module _ (H : History) (r : Ruled H) where
       past e =
           let now : Now < t = leb-false t Now e in
           rw e (accepted (λ s h. clean-before (suc Now) (omega arith) (omega arith) s (omega arith)))
-
-  pub verdict-only : {a : Answer} → Verdict H a → a ≡ verdict H
-  verdict-only v = verdict-unique H v verdict-exists

@@ -1,6 +1,6 @@
 -- Change instants.
 --   Changes     the label [from, to] changes at c
---   Change      some row of either table changes at c
+--   RowsChange  some row of either table changes at c; Change: of a history
 --   LastChange  c is the greatest change instant up to t
 -- Assumes nothing.
 use mathlib.Core.Path.{_≡_}
@@ -8,16 +8,20 @@ use mathlib.Core.Logic.{_≢_, _⊎_}
 use Prim.Native.Nat.{ℕ, _+_, _≤_, _<_}
 use Rattle.ground.specs.Least.{Any}
 use Rattle.tables.specs.Instants.{Now}
+use Rattle.tables.specs.Rows.{Edge, Ref}
 use Rattle.history.specs.History.{History}
 
 -- it starts there, or it is not current and ended just before
 abbrev pub Changes : ℕ → ℕ → ℕ → Type 0
 Changes from to c = (c ≡ from) ⊎ ((to ≢ Now) × (c ≡ to + 1))
 
+-- of the first m containment rows and the first k reference rows
+abbrev pub RowsChange : ℕ → (ℕ → Edge) → ℕ → (ℕ → Ref) → ℕ → Type 0
+RowsChange m E k R c =
+    Any (λ i. Changes (E i .from) (E i .to) c) m ⊎ Any (λ j. Changes (R j .from) (R j .to) c) k
+
 abbrev pub Change : History → ℕ → Type 0
-Change H c =
-    Any (λ i. Changes (H .edge i .from) (H .edge i .to) c) (H .edges) ⊎ Any
-    (λ k. Changes (H .ref k .from) (H .ref k .to) c) (H .refs)
+Change H = RowsChange (H .edges) (H .edge) (H .refs) (H .ref)
 
 pub record LastChange (H : History) (t c : ℕ) : Type 0 where
   pub before : c ≤ t

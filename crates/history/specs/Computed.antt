@@ -1,10 +1,20 @@
 -- The faults and the verdict, computed. That they are what the relations say is proved in proofs/ComputedLaws.antt and
 -- proofs/VerdictLaws.antt.
---   isInto .. dangles   the tests of the lines of the table
---   holds               the table
---   faultsSay           the first fault at t as an answer; shownSay: with GAP set aside
---   instants            the change instants, listed
---   verdict             the faults part of check's answer
+--   isInto, isOut        row i leads into n, out of n, and is in force
+--   hasEnded, isComing   row i leads into n, and ended before t, starts after t
+--   isPresent, isHere    n is present; in a history
+--   reaches              a chain of at most k rows leads from one node to another
+--   overlaps, hasGap, isOutside, cycles   the lines of the table that are of nodes
+--   refers               reference row k is in force
+--   holds                the table: a fault holds at t
+--   line                 a line of the table as an answer, with its smallest place; afterGap: the lines after GAP
+--   faultsSay            the first fault at t as an answer; shownSay: with GAP set aside
+--   turns                the instants at which labels start, and those past their ends
+--   instants             the change instants, listed
+--   faulty               there is a fault at t, and t is an instant
+--   soonest              the smallest number of a list at which a test passes
+--   saidAt               the answer at t, which may be one past Now
+--   verdict              the faults part of check's answer
 -- Assumes nothing.
 use mathlib.Core.Bool.{Bool, not, cond, _&&_, _||_}
 use mathlib.Core.List.{List, [], _∷_, _++_}

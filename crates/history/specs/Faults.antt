@@ -1,10 +1,13 @@
 -- Presence, chains, and the faults at an instant, line for line.
 --   Into, Out         row i leads into n, out of n, and is in force
+--   NoneInto          no row into n is in force
 --   Ended, Coming     row i leads into n, and ended before t, starts after t
 --   Touched           a row in force touches n
---   Present           n is present
+--   Present, Here     n is present; in a history
 --   Chain             rows, all in force, that lead from one node to another
 --   OneChain          exactly one chain leads from one node to another
+--   Below             all node numbers of the rows are below n
+--   Refers            reference row k is in force
 --   Overlap, Gap, Outside, Cycle, Late, Dangling   the lines of the table
 --   Holds             the table: a fault holds at t
 -- [01:Faults at an instant] "These condense conditions 1, 2, 3, half of 5, and 6 of Definition 3." [003:Def 3] OUTSIDE

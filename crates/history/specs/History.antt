@@ -1,9 +1,12 @@
 -- A history: the start, and rows by their numbers.
 --   History    the start, how many nodes, containment rows and reference rows, and the rows
 --   historyOf  the history that the first rows of three tables hold; held: that whole tables hold
---   Ruled      what the rules of rows say of a history
---  Lent       the tables hold so many rows, and the rows obey their rules: what the code over a history asks of its
---     slices
+--   EdgeRuled, RefRuled   what the rules of rows say of a row of a history; Ruled: of a history
+--   Lent       the tables hold so many rows, and the rows obey their rules: what the code over a history asks of
+--              its slices
+-- EdgeRuled and RefRuled ask less than EdgeRule and RefRule of tables/specs/Rules.antt. A history has no kinds: of
+-- them it is left that no row leads into the root. And a label may start at Now. Theory over rows by number needs only
+-- this, and code over a history asks no more. proofs/RuledLaws.antt: tables that obey the rules hold a Ruled history.
 -- Assumes nothing.
 use mathlib.Core.Logic.{_≢_}
 use mathlib.Core.List.{List}

@@ -30,7 +30,8 @@ use Rattle.lines.proofs.GotLaws.{
   onto-place,
   onto-numbers,
 }
-use Rattle.lines.proofs.LineLaws.{has-is, mark-pos, numbers-is}
+use Rattle.lines.proofs.NumberLaws.{has-is}
+use Rattle.lines.proofs.LineLaws.{mark-pos, numbers-is}
 use Rattle.lines.proofs.StepLaws.{numbers-missing, numbers-mark, numbers-step, numbers-none, lines-none}
 
 -- ---- the numbers of a line: `left` are to be read, w after the next; b is whether the next is an end

@@ -1,4 +1,5 @@
 pub mod GotLaws
+pub mod NumberLaws
 pub mod LineLaws
 pub mod StepLaws
 pub mod FillLaws

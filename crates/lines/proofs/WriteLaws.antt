@@ -20,7 +20,9 @@ use Rattle.lines.specs.Lines.{
   nowWord,
   numberText,
   numbersText,
+  oneForm,
   lineText,
+  oneLine,
   linesOf,
   joined,
   linesText,
@@ -214,6 +216,13 @@ pub line-short : (k : List ℕ) (f : Form) (vs : List ℕ) → length k ≤ most
     → length (lineText k f vs) ≤ mostLine
 line-short k f vs a b h =
     omega (arith, length-append k (numbersText f (f .width) vs), numbers-short f (f .width) vs h)
+
+pub one-short : (k : List ℕ) (v : ℕ) → length k ≤ mostKey → v ≤ Now → length (oneLine k v) ≤ mostLine
+one-short k v a h = line-short k (oneForm 0 Now) (v ∷ []) a (omega arith) small
+  where
+    small : (i : ℕ) → getD (v ∷ []) i 0 ≤ Now
+    small zero = h
+    small (suc i) = omega arith
 
 pub lines-short : (k : List ℕ) (f : Form) (m : ℕ) (vs : List ℕ) → length k ≤ mostKey → f .width ≤ mostWidth
     → ((i : ℕ) → getD vs i 0 ≤ Now)

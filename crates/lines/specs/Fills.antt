@@ -1,4 +1,4 @@
--- The second pass of reading, and lengths of lines.
+-- The second pass of reading.
 --   Filled x old base new n    the numbers that x read stand in `new` from index base on, all else is as in `old`,
 --                              and n is the place after them
 -- Assumes nothing.

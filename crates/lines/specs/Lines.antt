@@ -2,10 +2,11 @@
 -- LF.
 --   oneForm, rowForm       a line of one number between bounds; a row of w numbers, the last perhaps an end
 --   isEnd, mark            of the number that w more follow: whether it is an end; what stands after it
---   numberText last v      a number of a line: where it is the last of a row that ends, `now` for Now
+--   nowWord                the word `now`
+--   numberText b v         a number of a line: where it is an end, `now` for Now
 --   numbersText f w vs     the first w numbers of vs, with their marks
 --   lineText, oneLine      a line with a key; a line of one number
---   linesOf k f m vs       m lines with the key k, of the numbers vs; `joined` is the text of lines
+--   linesOf k f m vs       m lines with the key k, of the numbers vs; `joined` is the text of lines, linesText of these
 --   NumberOk, NumbersOk, LinesOk    the numbers are within the bounds of the form
 -- Assumes nothing.
 use mathlib.Core.Bool.{Bool, true, false, cond}

@@ -28,5 +28,9 @@ planAt (lines k f m next) s i = andThen (linesAt k f s m i) (λ vs n. planAt (ne
 abbrev pub Prints : {A : Type 0} → Plan A → A → List (List ℕ) → Type 0
 Prints (stop b) a ls = (b ≡ a) × (ls ≡ [])
 Prints (lines k f m next) a ls =
-    (vs : List ℕ) × (rest : List (List ℕ)) × LinesOk f m vs × (length vs ≡ m * f .width) × Prints (next vs) a
-    rest × (ls ≡ linesOf k f m vs ++ rest)
+    (vs : List ℕ)
+    × (rest : List (List ℕ))
+    × LinesOk f m vs
+    × (length vs ≡ m * f .width)
+    × Prints (next vs) a rest
+    × (ls ≡ linesOf k f m vs ++ rest)

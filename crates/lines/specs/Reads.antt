@@ -1,12 +1,15 @@
 -- What stands in a text, by place.
 --   Got A                  what was read, and the place after it; or the place of the first line that is not what
 --                          must stand there
---   andThen                where something was read, go on
---   hasAt k s i            the bytes k stand at place i of s
+--   andThen                where something was read, go on; thenNumber: where a number was
+--   begins, hasAt          the bytes k begin a list; they stand at place i of s
+--   atLeast                a number, unless it is below the least
 --   numberAt, numbersAt    a number of a line; the numbers of a line that begins at place p
+--   onto                   numbers in front of what was read
 --   lineAt, linesAt        a line; m lines
 --   endOf                  what a reader that keeps no numbers answers
 --   isGot, gotOf, placeOf  whether something was read; that (or what stands for it), and the place
+--   numbersOf, oneOf       the numbers that were read, or none; the number of a line of one
 -- A refusal is `wrong` with a place that each of them hands on: [02:Ask 4] moves the place and nothing else. Assumes
 -- nothing.
 use mathlib.Core.Bool.{Bool, true, false, cond}

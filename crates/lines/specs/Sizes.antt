@@ -13,15 +13,18 @@ use lib.ListN.{length}
 abbrev pub mostNumber : ℕ
 mostNumber = 10
 
+-- those of `edition=` and `instant=`
 abbrev pub mostKey : ℕ
 mostKey = 8
 
+-- a bound with room to spare, so that sums of lengths fit: the rows of document 01 have at most 4 numbers
 abbrev pub mostWidth : ℕ
 mostWidth = 8
 
 abbrev pub mostLine : ℕ
 mostLine = mostKey + mostWidth * (mostNumber + 1)
 
+-- a bound with room to spare, so that sums of lengths fit: the tables of document 01 have at most 2,048 rows
 abbrev pub mostLines : ℕ
 mostLines = 4096
 

@@ -1,8 +1,9 @@
--- The answer of the rules is the one that `Gives` allows. Assumes nothing.
+-- The answer of the rules is the one that `Gives` allows; without references it is that of the containment alone.
+-- Assumes nothing.
 use mathlib.Core.Path.{_≡_, sym, _∙_, subst}
 use mathlib.Core.Logic.{_≢_, ⊎-elim}
 use mathlib.Core.Bool.{Bool, false, false≢true}
-use mathlib.Core.List.{List}
+use mathlib.Core.List.{List, []}
 use Prim.Native.Nat.{ℕ, _<_}
 use native.Mathlib.Decide.{ℕ-discrete}
 use native.Mathlib.Omega.{arith}
@@ -11,11 +12,12 @@ use lib.Dec.{ltb}
 use borrow.Author.Tests.{eq-eqb, ne-eqb, lt-ltb, le-ltb}
 use Rattle.ground.specs.Tests.{Tells}
 use Rattle.ground.specs.Least.{Least, least}
-use Rattle.ground.proofs.TestLaws.{tells-not, tells-fails, tells-dec}
+use Rattle.ground.proofs.TestLaws.{by-test, tells-not, tells-fails, tells-dec}
 use Rattle.ground.proofs.LeastLaws.{least-unique, least-tells, all-or-least, search-missed}
 use Rattle.answers.specs.declared.Answer.{Answer}
 use Rattle.answers.specs.declared.Answer.the-variants.{Size, Start, Node, Edge, Reference}
-use Rattle.answers.specs.Refusals.{passed}
+use Rattle.answers.specs.Numbers.{refuses}
+use Rattle.answers.specs.Refusals.{passed, _⨾_}
 use Rattle.tables.specs.Instants.{Now}
 use Rattle.tables.specs.Rows.{
   nodeWidth,
@@ -29,10 +31,15 @@ use Rattle.tables.specs.Rows.{
   refCount,
 }
 use Rattle.tables.specs.Rules.{
+  sizeRule,
   leastNodes,
   mostNodes,
   mostEdges,
   mostRefs,
+  NodesSize,
+  EdgesSize,
+  RefsSize,
+  Sizes,
   NodeRule,
   EdgeRule,
   RefRule,
@@ -40,10 +47,22 @@ use Rattle.tables.specs.Rules.{
   badEdge,
   badRef,
 }
-use Rattle.tables.specs.Says.{nodesFit, edgesFit, refsFit, sizesSay, allSizesSay, rowsSay, refsSay, historySays, Rows}
-use Rattle.tables.specs.Gives.{NodesSize, EdgesSize, RefsSize, Sizes, BadNode, BadEdge, BadRef, Gives, nodes-size, edges-size, refs-size, start-now, node, edge, reference, nothing}
+use Rattle.tables.specs.Says.{
+  nodesFit,
+  edgesFit,
+  refsFit,
+  sizesSay,
+  allSizesSay,
+  rowsSay,
+  refsSay,
+  containmentSays,
+  historySays,
+  Rows,
+}
+use Rattle.tables.specs.Gives.{Smallest, BadNode, BadEdge, BadRef, Gives}
+use Rattle.tables.specs.Gives.{nodes-size, edges-size, refs-size, start-now, node, edge, reference, nothing}
 use Rattle.tables.proofs.RuleLaws.{node-tells, edge-tells, ref-tells}
-use Rattle.tables.proofs.SaysLaws.{size-tells}
+use Rattle.tables.proofs.SaysLaws.{size-tells, rows-sound}
 
 module _ (start : ℕ) (ns es rs : List ℕ) where
   n-tells : Tells (nodesFit ns) (NodesSize ns)
@@ -91,53 +110,73 @@ module _ (start : ℕ) (ns es rs : List ℕ) where
       → ltb (least (badRef start (nodeCount ns) (nodeAt ns) (refAt rs)) (refCount rs)) (refCount rs) ≡ false
   refs-right f = nothing-bad _ (refCount rs) (λ i h. tells-fails _ (bad-ref-tells i) (λ x. x (f i h)))
 
-  pub gives-is : {a : Answer} → Gives start ns es rs a → a ≡ historySays start ns es rs
-  unfolding historySays allSizesSay sizesSay rowsSay refsSay
-  gives-is (nodes-size f) = simp (tells-fails _ n-tells f)
-  gives-is (edges-size n f) = simp (n-tells .1 n, tells-fails _ m-tells f)
-  gives-is (refs-size n m f) = simp (n-tells .1 n, m-tells .1 m, tells-fails _ k-tells f)
-  gives-is (start-now s e) = simp (n-tells .1 (s .0), m-tells .1 (s .1), k-tells .1 (s .2), eq-eqb start Now e)
-  gives-is (node {k} s ne (l, h)) =
+  -- what follows the sizes, and each of its answers
+  abbrev rest : Answer
+  rest = rowsSay start ns (nodeCount ns) es (edgeCount es) ⨾ refsSay start ns (nodeCount ns) rs (refCount rs)
+
+  sized : Sizes ns es rs → rest ≡ historySays start ns es rs
+  unfolding historySays allSizesSay sizesSay
+  sized s = simp (n-tells .1 (s .0), m-tells .1 (s .1), k-tells .1 (s .2))
+
+  start-is : start ≡ Now → Start ≡ rest
+  unfolding rowsSay
+  start-is e = simp (eq-eqb start Now e)
+
+  node-is : {k : ℕ} → start ≢ Now → Smallest (BadNode start ns es rs) (nodeCount ns) k → Node k ≡ rest
+  unfolding rowsSay
+  node-is {k} ne (l, h) =
       simp (
-        n-tells .1 (s .0),
-        m-tells .1 (s .1),
-        k-tells .1 (s .2),
         ne-eqb start Now ne,
         ← smallest-is (badNode (nodeAt ns)) (BadNode start ns es rs) bad-node-tells (nodeCount ns) k l,
         lt-ltb _ _ h,
       )
-  gives-is (edge {k} s ne f (l, h)) =
+
+  edge-is : {k : ℕ} → start ≢ Now → ((i : ℕ) → i < nodeCount ns → NodeRule i (nodeAt ns i))
+      → Smallest (BadEdge start ns es rs) (edgeCount es) k
+      → Edge k ≡ rest
+  unfolding rowsSay
+  edge-is {k} ne f (l, h) =
       simp (
-        n-tells .1 (s .0),
-        m-tells .1 (s .1),
-        k-tells .1 (s .2),
         ne-eqb start Now ne,
         nodes-right f,
-        ← smallest-is (badEdge start (nodeCount ns) (nodeAt ns) (edgeAt es)) (BadEdge start ns es rs) bad-edge-tells (edgeCount es) k l,
+        ← smallest-is (badEdge start (nodeCount ns) (nodeAt ns) (edgeAt es)) (BadEdge start ns es rs) bad-edge-tells
+            (edgeCount es) k l,
         lt-ltb _ _ h,
       )
-  gives-is (reference {k} s r (l, h)) =
+
+  -- where the rows obey their rules, the references alone are left to judge
+  ruled : Rows start ns (nodeCount ns) es (edgeCount es)
+      → refsSay start ns (nodeCount ns) rs (refCount rs) ≡ rest
+  unfolding rowsSay
+  ruled r = simp (ne-eqb start Now (r .start-rule), nodes-right (r .node-rule), edges-right (r .edge-rule))
+
+  reference-is : {k : ℕ} → Smallest (BadRef start ns es rs) (refCount rs) k
+      → Reference k ≡ refsSay start ns (nodeCount ns) rs (refCount rs)
+  unfolding refsSay
+  reference-is {k} (l, h) =
       simp (
-        n-tells .1 (s .0),
-        m-tells .1 (s .1),
-        k-tells .1 (s .2),
-        ne-eqb start Now (r .start-rule),
-        nodes-right (r .node-rule),
-        edges-right (r .edge-rule),
-        ← smallest-is (badRef start (nodeCount ns) (nodeAt ns) (refAt rs)) (BadRef start ns es rs) bad-ref-tells (refCount rs) k l,
+        ← smallest-is (badRef start (nodeCount ns) (nodeAt ns) (refAt rs)) (BadRef start ns es rs) bad-ref-tells
+            (refCount rs) k l,
         lt-ltb _ _ h,
       )
+
+  nothing-is : ((k : ℕ) → k < refCount rs → RefRule start (nodeCount ns) (nodeAt ns) (refAt rs k))
+      → passed ≡ refsSay start ns (nodeCount ns) rs (refCount rs)
+  unfolding refsSay
+  nothing-is f = simp (refs-right f)
+
+  pub gives-is : {a : Answer} → Gives start ns es rs a → a ≡ historySays start ns es rs
+  unfolding historySays allSizesSay sizesSay
+  gives-is (nodes-size f) = simp (tells-fails _ n-tells f)
+  gives-is (edges-size n f) = simp (n-tells .1 n, tells-fails _ m-tells f)
+  gives-is (refs-size n m f) = simp (n-tells .1 n, m-tells .1 m, tells-fails _ k-tells f)
+  gives-is (start-now s e) = start-is e ∙ sized s
+  gives-is (node s ne x) = node-is ne x ∙ sized s
+  gives-is (edge s ne f x) = edge-is ne f x ∙ sized s
+  gives-is (reference s r x) = reference-is x ∙ ruled r ∙ sized s
   gives-is (nothing o) =
       let c = o .contained in
-      simp (
-        n-tells .1 (c .nodes-size),
-        m-tells .1 (c .edges-size),
-        k-tells .1 (o .refs-size),
-        ne-eqb start Now (c .rows .start-rule),
-        nodes-right (c .rows .node-rule),
-        edges-right (c .rows .edge-rule),
-        refs-right (o .ref-rule),
-      )
+      nothing-is (o .ref-rule) ∙ ruled (c .rows) ∙ sized (c .nodes-size, c .edges-size, o .refs-size)
 
   -- one of them applies
   Some : Type 0
@@ -189,3 +228,25 @@ module _ (start : ℕ) (ns es rs : List ℕ) where
   gives-says =
       let (a, g) = some-size (tells-dec _ n-tells) (tells-dec _ m-tells) (tells-dec _ k-tells) in
       subst (Gives start ns es rs) (gives-is g) g
+
+-- without references, the three tables are judged as the two are
+module _ (start : ℕ) (ns es : List ℕ) where
+  abbrev rows : Answer
+  rows = rowsSay start ns (nodeCount ns) es (edgeCount es)
+
+  rows-passed : refuses rows ≡ false → rows ≡ passed
+  unfolding rowsSay
+  rows-passed e =
+      let r = rows-sound start ns (nodeCount ns) es (edgeCount es) e in
+      simp (
+        ne-eqb start Now (r .start-rule),
+        nodes-right start ns es [] (r .node-rule),
+        edges-right start ns es [] (r .edge-rule),
+      )
+
+  pub containment-history : containmentSays start ns es ≡ historySays start ns es []
+  unfolding containmentSays historySays allSizesSay refsSay sizeRule least
+  containment-history =
+      by-test (refuses (sizesSay ns es))
+      (λ t. simp t)
+      (λ f. by-test (refuses rows) (λ t. simp (f, t)) (λ g. simp (f, g) (rows-passed g)))

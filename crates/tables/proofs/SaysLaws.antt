@@ -54,7 +54,7 @@ use Rattle.tables.specs.Says.{
   containmentSays,
   historySays,
   Rows,
-  Contained,
+  ObeysContainment,
   Obeys,
 }
 use Rattle.tables.proofs.RuleLaws.{node-tells, edge-tells, ref-tells}
@@ -177,7 +177,7 @@ module _ (start : ℕ) (ns es : List ℕ) where
   abbrev rows : Answer
   rows = rowsSay start ns (nodeCount ns) es (edgeCount es)
 
-  pub contained-sound : refuses (sizesSay ns es) ≡ false → refuses rows ≡ false → Contained start ns es
+  pub contained-sound : refuses (sizesSay ns es) ≡ false → refuses rows ≡ false → ObeysContainment start ns es
   contained-sound a b =
       let (n, m) = sizes-pass ns es a in
       record {
@@ -186,7 +186,7 @@ module _ (start : ℕ) (ns es : List ℕ) where
         rows = rows-sound start ns (nodeCount ns) es (edgeCount es) b;
       }
 
-  pub contained-complete : Contained start ns es → (refuses (sizesSay ns es) ≡ false) × (refuses rows ≡ false)
+  pub contained-complete : ObeysContainment start ns es → (refuses (sizesSay ns es) ≡ false) × (refuses rows ≡ false)
   contained-complete o = (
     pass-sizes ns es
         (size-tells nodeWidth leastNodes mostNodes (length ns) (omega arith) .1 (o .nodes-size))
@@ -194,7 +194,7 @@ module _ (start : ℕ) (ns es : List ℕ) where
     rows-complete start ns (nodeCount ns) es (edgeCount es) (o .rows),
   )
 
-  pub contained-tells : (refuses (containmentSays start ns es) ≡ false) ↔ Contained start ns es
+  pub contained-tells : (refuses (containmentSays start ns es) ≡ false) ↔ ObeysContainment start ns es
   unfolding containmentSays
   contained-tells = (
     λ e. let (a, b) = both-pass (sizesSay ns es) rows e in contained-sound a b,

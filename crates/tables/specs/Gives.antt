@@ -1,60 +1,27 @@
--- When each of the codes 1 to 5 is given, in the document's words. proofs/GivesLaws.antt: `historySays` is the one answer
--- that this allows.
---   NodesSize, EdgesSize, RefsSize   the sizes of the tables are right
---   Sizes                            all three are
---   Smallest                         k is the smallest of n rows with a property
---   Gives                            an answer of the rules, given exactly under its condition, the first in the order
+-- When each of the codes 1 to 5 is given, in the document's words. proofs/GivesLaws.antt: `historySays` is the one
+-- answer that this allows.
+--   Smallest                  k is the smallest of n rows with a property
+--   BadNode, BadEdge, BadRef  row i breaks its rule
+--   Gives                     an answer of the rules, given exactly under its condition, the first in the order
 -- Assumes nothing.
 use mathlib.Core.Path.{_≡_}
 use mathlib.Core.Logic.{_≢_}
 use mathlib.Core.List.{List}
 use Prim.Native.Nat.{ℕ, _<_}
-use lib.ListN.{length}
 use Rattle.ground.specs.Least.{Least}
 use Rattle.answers.specs.declared.Answer.{Answer}
 use Rattle.answers.specs.declared.Answer.the-variants.{Size, Start, Node, Edge, Reference}
 use Rattle.answers.specs.Refusals.{passed}
 use Rattle.tables.specs.Instants.{Now}
-use Rattle.tables.specs.Rows.{
-  nodeWidth,
-  edgeWidth,
-  refWidth,
-  nodeAt,
-  edgeAt,
-  refAt,
-  nodeCount,
-  edgeCount,
-  refCount,
-}
-use Rattle.tables.specs.Rules.{
-  SizeRule,
-  leastNodes,
-  mostNodes,
-  mostEdges,
-  mostRefs,
-  NodeRule,
-  EdgeRule,
-  RefRule,
-}
+use Rattle.tables.specs.Rows.{nodeAt, edgeAt, refAt, nodeCount, edgeCount, refCount}
+use Rattle.tables.specs.Rules.{NodesSize, EdgesSize, RefsSize, Sizes, NodeRule, EdgeRule, RefRule}
 use Rattle.tables.specs.Says.{Rows, Obeys}
-
-abbrev pub NodesSize : List ℕ → Type 0
-NodesSize ns = SizeRule nodeWidth leastNodes mostNodes (length ns)
-
-abbrev pub EdgesSize : List ℕ → Type 0
-EdgesSize es = SizeRule edgeWidth 0 mostEdges (length es)
-
-abbrev pub RefsSize : List ℕ → Type 0
-RefsSize rs = SizeRule refWidth 0 mostRefs (length rs)
-
-abbrev pub Sizes : List ℕ → List ℕ → List ℕ → Type 0
-Sizes ns es rs = NodesSize ns × EdgesSize es × RefsSize rs
 
 abbrev pub Smallest : (ℕ → Type 0) → ℕ → ℕ → Type 0
 Smallest P n k = Least P n k × (k < n)
 
--- [01:What the calls answer] the lines 1 to 5 of the table; "Each is given exactly under its condition, the first in the
--- order stated."
+-- [01:What the calls answer] the lines 1 to 5 of the table; "Each is given exactly under its condition, the first in
+-- the order stated."
 module _ (start : ℕ) (ns es rs : List ℕ) where
   abbrev pub BadNode : ℕ → Type 0
   BadNode i = NodeRule i (nodeAt ns i) → ⊥

@@ -1,9 +1,12 @@
 -- Rows, and how a table of numbers holds them. Only this file and src/rows.rt know how many numbers a row has.
---   Node, Edge, Ref            a node row, a containment row, a reference row
---   nodeAt, edgeAt, refAt      row i of a table
---   HasNodes, HasEdges, HasRefs        the table has so many whole rows, or more
---   nodeCount, edgeCount, refCount     how many whole rows a table has
---   withEnd, setEnd            a containment row with another end, and a table whose row i has another end
+--   Node, Edge, Ref                  a node row, a containment row, a reference row
+--   nodeWidth, edgeWidth, refWidth   how many numbers a row has
+--   noNode                           the number that stands for no node
+--   numberAt                         number k of row i
+--   nodeAt, edgeAt, refAt            row i of a table
+--   HasNodes, HasEdges, HasRefs      the table has so many whole rows, or more; HasRows: where rows have w numbers
+--   nodeCount, edgeCount, refCount   how many whole rows a table has
+--   withEnd, setEnd                  a containment row with another end, and a table whose row i has another end
 -- Assumes nothing.
 use mathlib.Core.List.{List}
 use Prim.Native.Nat.{ℕ, _+_, _*_, _/_, _≤_}
@@ -37,6 +40,10 @@ edgeWidth = 4
 
 abbrev pub refWidth : ℕ
 refWidth = 4
+
+-- [01:What the calls answer] "The root's parent is 4,294,967,295. Referent is .. 4,294,967,295 if there is none."
+abbrev pub noNode : ℕ
+noNode = 4294967295
 
 -- number k of row i, where rows have w numbers
 -- [01:Instants and tables] "Tables are lent as 32-bit numbers. A row's number is its place, from 0."

@@ -1,15 +1,28 @@
 -- The sizes of tables and the rules of rows, in the document's words, and the test of each. proofs/RuleLaws.antt ties
 -- the two.
---   SizeRule, NodeRule, EdgeRule, RefRule   what is right; sizeRule, nodeRule, edgeRule, refRule: the tests
---   badNode, badEdge, badRef                row i breaks its rule
+--   leastNodes, mostNodes, mostEdges, mostRefs   how many rows a table may have
+--   SizeRule, sizeRule    so many numbers are whole rows, neither too few nor too many; the test
+--   NodesSize, EdgesSize, RefsSize   the size of a table is right; Sizes: the sizes of all three are
+--   root, element, plainAttribute, idAttribute, refAttribute, value   the kinds
+--   mostLabel             the largest label
+--   NodeRule, nodeRule    node row i is right; the test. rootRule: its kind is that of its place; valueRule, otherRule:
+--                         its label and value are those of kind 5, of the rest
+--   MayHold, mayHold      a parent of one kind may hold a child of another; the test. holdsAny: as the root or an
+--                         element; holdsValue: as an attribute
+--   LabelRule, labelRule  the label of a row of either kind is right; the test
+--   EdgeRule, edgeRule    a containment row is right; the test
+--   RefRule, refRule      a reference row is right; the test. mayRefer: of the two kinds
+--   badNode, badEdge, badRef   row i breaks its rule
 -- Assumes nothing.
 use mathlib.Core.Path.{_≡_}
 use mathlib.Core.Logic.{_≢_, _⊎_}
 use mathlib.Core.Bool.{Bool, not, _&&_, _||_}
+use mathlib.Core.List.{List}
 use Prim.Native.Nat.{ℕ, _*_, _/_, _%_, _≤_, _<_}
 use lib.Dec.{leb, ltb, eqb}
+use lib.ListN.{length}
 use Rattle.tables.specs.Instants.{Now}
-use Rattle.tables.specs.Rows.{Node, Edge, Ref}
+use Rattle.tables.specs.Rows.{Node, Edge, Ref, nodeWidth, edgeWidth, refWidth}
 
 -- [01:Instants and tables] "Sizes: 1 to 1,024 nodes, 0 to 2,048 containment rows, 0 to 1,024 reference rows."
 abbrev pub leastNodes : ℕ
@@ -30,6 +43,18 @@ SizeRule w least most numbers = (rows : ℕ) × (numbers ≡ rows * w) × (least
 
 unfoldable pub sizeRule : ℕ → ℕ → ℕ → ℕ → Bool
 sizeRule w least most numbers = eqb (numbers % w) 0 && leb least (numbers / w) && leb (numbers / w) most
+
+abbrev pub NodesSize : List ℕ → Type 0
+NodesSize ns = SizeRule nodeWidth leastNodes mostNodes (length ns)
+
+abbrev pub EdgesSize : List ℕ → Type 0
+EdgesSize es = SizeRule edgeWidth 0 mostEdges (length es)
+
+abbrev pub RefsSize : List ℕ → Type 0
+RefsSize rs = SizeRule refWidth 0 mostRefs (length rs)
+
+abbrev pub Sizes : List ℕ → List ℕ → List ℕ → Type 0
+Sizes ns es rs = NodesSize ns × EdgesSize es × RefsSize rs
 
 -- [01:Instants and tables] "Kinds: 0 root, 1 element, 2 plain attribute, 3 ID attribute, 4 REF attribute, 5 value."
 abbrev pub root : ℕ
@@ -63,11 +88,17 @@ pub record NodeRule (i : ℕ) (x : Node) : Type 0 where
   pub first : i ≡ 0 → x .kind ≡ root
   pub no-other : i ≢ 0 → x .kind ≢ root
 
+abbrev pub rootRule : ℕ → Node → Bool
+rootRule i x = (eqb i 0 && eqb (x .kind) root) || (not (eqb i 0) && not (eqb (x .kind) root))
+
+abbrev pub valueRule : Node → Bool
+valueRule x = eqb (x .kind) value && eqb (x .label) 0
+
+abbrev pub otherRule : Node → Bool
+otherRule x = ltb (x .kind) value && (leb 1 (x .label) && leb (x .label) mostLabel) && eqb (x .value) 0
+
 abbrev pub nodeRule : ℕ → Node → Bool
-nodeRule i x =
-    (eqb i 0 && eqb (x .kind) root || not (eqb i 0) && not (eqb (x .kind) root))
-    && (eqb (x .kind) value && eqb (x .label) 0 || ltb (x .kind) value && (leb 1 (x .label) && leb (x .label) mostLabel)
-    && eqb (x .value) 0)
+nodeRule i x = rootRule i x && (valueRule x || otherRule x)
 
 -- [01:Instants and tables] "Allowed: parent of kind 0 or 1 with child of kind 1 to 5; parent of kind 2 or 3 with child
 -- of kind 5; nothing else."
@@ -76,10 +107,14 @@ MayHold p c =
     (((p ≡ root) ⊎ (p ≡ element)) × ((element ≤ c) × (c ≤ value)))
     ⊎ (((p ≡ plainAttribute) ⊎ (p ≡ idAttribute)) × (c ≡ value))
 
+abbrev pub holdsAny : ℕ → ℕ → Bool
+holdsAny p c = (eqb p root || eqb p element) && (leb element c && leb c value)
+
+abbrev pub holdsValue : ℕ → ℕ → Bool
+holdsValue p c = (eqb p plainAttribute || eqb p idAttribute) && eqb c value
+
 abbrev pub mayHold : ℕ → ℕ → Bool
-mayHold p c =
-    (eqb p root || eqb p element) && (leb element c && leb c value) || (eqb p plainAttribute || eqb p idAttribute)
-    && eqb c value
+mayHold p c = holdsAny p c || holdsValue p c
 
 -- [01:Instants and tables] "For both row kinds: start ≤ from ≤ to, and from is never Now."
 pub record LabelRule (start from to : ℕ) : Type 0 where
@@ -103,8 +138,9 @@ pub record EdgeRule (start n : ℕ) (node : ℕ → Node) (e : Edge) : Type 0 wh
 
 abbrev pub edgeRule : ℕ → ℕ → (ℕ → Node) → Edge → Bool
 edgeRule start n node e =
-    ltb (e .parent) n && ltb (e .child) n &&
-    (mayHold (node (e .parent) .kind) (node (e .child) .kind) && labelRule start (e .from) (e .to))
+    ltb (e .parent) n
+    && ltb (e .child) n
+    && (mayHold (node (e .parent) .kind) (node (e .child) .kind) && labelRule start (e .from) (e .to))
 
 -- [01:Instants and tables] "Reference row, 4 numbers: attribute (kind 4), target (kind 1), from, to."
 pub record RefRule (start n : ℕ) (node : ℕ → Node) (r : Ref) : Type 0 where
@@ -119,8 +155,9 @@ mayRefer a t = eqb a refAttribute && eqb t element
 
 abbrev pub refRule : ℕ → ℕ → (ℕ → Node) → Ref → Bool
 refRule start n node r =
-    ltb (r .attribute) n && ltb (r .target) n &&
-    (mayRefer (node (r .attribute) .kind) (node (r .target) .kind) && labelRule start (r .from) (r .to))
+    ltb (r .attribute) n
+    && ltb (r .target) n
+    && (mayRefer (node (r .attribute) .kind) (node (r .target) .kind) && labelRule start (r .from) (r .to))
 
 -- row i breaks its rule
 unfoldable pub badNode : (ℕ → Node) → ℕ → Bool

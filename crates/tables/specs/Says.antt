@@ -1,11 +1,13 @@
 -- What the sizes and the rules of rows answer: codes 1 to 5 in their order, each with the smallest row. And what tables
 -- are that none of them refuses.
---   sizesSay         1 for the nodes and the containment table
+--   smallest         the answer that names the smallest bad row
+--   nodesFit, edgesFit, refsFit   the size of a table is right: the tests
+--   sizesSay         1 for the nodes and the containment table; allSizesSay: for all three
 --   rowsSay          2, 3, 4: the start, the node rows, the containment rows
 --   refsSay          5: the reference rows
 --   containmentSays  1 to 4 for the two tables of repair
 --   historySays      1 to 5 for the three tables of the other calls
---   Rows, Contained, Obeys   rows, two tables and three tables that obey the rules
+--   Rows, ObeysContainment, Obeys   rows, two tables and three tables that obey the rules
 -- Assumes nothing.
 use mathlib.Core.Logic.{_≢_}
 use mathlib.Core.Bool.{Bool, not}
@@ -30,12 +32,14 @@ use Rattle.tables.specs.Rows.{
   refCount,
 }
 use Rattle.tables.specs.Rules.{
-  SizeRule,
   sizeRule,
   leastNodes,
   mostNodes,
   mostEdges,
   mostRefs,
+  NodesSize,
+  EdgesSize,
+  RefsSize,
   NodeRule,
   EdgeRule,
   RefRule,
@@ -96,13 +100,13 @@ pub record Rows (start : ℕ) (ns : List ℕ) (n : ℕ) (es : List ℕ) (m : ℕ
   pub edge-rule : (i : ℕ) → i < m → EdgeRule start n (nodeAt ns) (edgeAt es i)
 
 -- the nodes and the containment table obey the rules, their sizes too
-pub record Contained (start : ℕ) (ns es : List ℕ) : Type 0 where
-  pub nodes-size : SizeRule nodeWidth leastNodes mostNodes (length ns)
-  pub edges-size : SizeRule edgeWidth 0 mostEdges (length es)
+pub record ObeysContainment (start : ℕ) (ns es : List ℕ) : Type 0 where
+  pub nodes-size : NodesSize ns
+  pub edges-size : EdgesSize es
   pub rows : Rows start ns (nodeCount ns) es (edgeCount es)
 
 -- [demand 3] "tables that obey the rules"
 pub record Obeys (start : ℕ) (ns es rs : List ℕ) : Type 0 where
-  pub contained : Contained start ns es
-  pub refs-size : SizeRule refWidth 0 mostRefs (length rs)
+  pub contained : ObeysContainment start ns es
+  pub refs-size : RefsSize rs
   pub ref-rule : (k : ℕ) → k < refCount rs → RefRule start (nodeCount ns) (nodeAt ns) (refAt rs k)

@@ -2,7 +2,8 @@
 ghost use mathlib.Core.Path.{_≡_};
 ghost use Prim.Native.Nat.{_+_, _<_};
 ghost use Rattle.tables.specs.Instants.{during, labelOf};
-ghost use Rattle.tables.specs.Rows.{numberAt, nodeAt, edgeAt, refAt, HasRows, HasNodes, HasEdges, HasRefs, nodeCount, edgeCount, refCount, setEnd};
+ghost use Rattle.tables.specs.Rows.{nodeCount, edgeCount, refCount, numberAt, nodeAt, edgeAt, refAt, setEnd};
+ghost use Rattle.tables.specs.Rows.{HasRows, HasNodes, HasEdges, HasRefs};
 use super::label::Label;
 
 pub const NODE_WIDTH: usize = 3;
@@ -10,6 +11,9 @@ pub const NODE_WIDTH: usize = 3;
 pub const EDGE_WIDTH: usize = 4;
 
 pub const REF_WIDTH: usize = 4;
+
+// The number that stands for no node.
+pub const NO_NODE: u32 = 4294967295;
 
 pub fn node_count(nodes: &[u32]) -> usize
     ensures { λ r. ⌜ r ≡ nodeCount (now (nodes .entry)) ⌝ }

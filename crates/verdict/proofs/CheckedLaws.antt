@@ -36,8 +36,12 @@ module _ (start : ℕ) (ns es rs : List ℕ) where
         on-verdict v = judged obeys (rw (en, em, ek) at v)
 
   -- tables that a rule refuses do not obey the rules
-  pub not-both : {a : Answer} → Gives start ns es rs a → refuses a ≡ true → Obeys start ns es rs → ⊥
+  not-both : {a : Answer} → Gives start ns es rs a → refuses a ≡ true → Obeys start ns es rs → ⊥
   not-both g t o = false≢true (sym (obeys-tells start ns es rs .1 o) ∙ ap refuses (sym (gives-is start ns es rs g)) ∙ t)
+
+  pub checked-verdict : {a : Answer} → Obeys start ns es rs → Checked start ns es rs a → Verdict (held start ns es rs) a
+  checked-verdict o (ruled-out g t) = absurd (not-both g t o)
+  checked-verdict o (judged p v) = v
 
   pub checked-unique : {a b : Answer} → Checked start ns es rs a → Checked start ns es rs b → a ≡ b
   checked-unique (ruled-out g t) (ruled-out h u) = gives-is start ns es rs g ∙ sym (gives-is start ns es rs h)
@@ -53,6 +57,3 @@ module _ (start : ℕ) (ns es rs : List ℕ) where
       (λ f.
       let o = obeys-tells start ns es rs .0 f in
       rw f (judged o (verdict-exists (held start ns es rs) (obeys-ruled start ns es rs o))))
-
-  pub checked-only : {a : Answer} → Checked start ns es rs a → a ≡ checkSays start ns es rs
-  checked-only c = checked-unique c checked-exists

@@ -10,6 +10,7 @@ use answers::Answer;
 use faults::judge::judge;
 use faults::stays::note_rows;
 use faults::until::until;
+use tables::judge::MOST_NODES;
 use tables::judge::judge_history;
 use tables::label::NOW;
 use tables::rows::edge_count;
@@ -41,7 +42,7 @@ fn sweep_from(
         if said.refuses() {
             return said;
         }
-        let calm = until(start, n, edges, m, refs, k, t);
+        let calm = until(edges, m, refs, k, t);
         if calm == NOW {
             return Answer::Done(0, 0);
         }
@@ -54,8 +55,8 @@ fn sweep(start: u32, n: usize, edges: &[u32], m: usize, refs: &[u32], k: usize) 
     requires { ⌜ Lent start n (now edges) m (now refs) k ⌝ }
     ensures { λ r. ⌜ Verdict (historyOf start n (now (edges .entry)) m (now (refs .entry)) k) r ⌝ }
 {
-    let mut first = [NOW; 1024];
-    let mut last = [0u32; 1024];
+    let mut first = [NOW; MOST_NODES];
+    let mut last = [0u32; MOST_NODES];
     note_rows(edges, m, &mut first, &mut last);
     sweep_from(start, n, edges, m, refs, k, &first, &last, start)
 }

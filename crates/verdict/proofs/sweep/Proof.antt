@@ -2,6 +2,7 @@ use native.Mathlib.Omega.{arith}
 use mathlib.Core.Path.{refl}
 use denote.Ref.{now}
 use Rattle.tables.specs.Rows.{edgeAt}
+use Rattle.tables.specs.Rules.{mostNodes}
 use Rattle.history.specs.History.{History, historyOf}
 use Rattle.history.proofs.RuledLaws.{start-faultless}
 use Rattle.faults.proofs.SlotLaws.{below-wide}
@@ -22,9 +23,9 @@ slice-aggregate-note-rows-2 c = search needs
 note-rows-requires : tie.Need-note-rows-requires
 note-rows-requires c κs =
     let a = c .before .before .before .before in (
-      (a .pre .edge-rows, below-wide (H a) (a .pre .ruled) 1024 (a .pre .ruled .few-nodes), refl),
+      (a .pre .edge-rows, below-wide (H a) (a .pre .ruled) mostNodes (a .pre .ruled .few-nodes), refl),
       stays-none
-          (edgeAt (now (a .args .edges))) 1024,
+          (edgeAt (now (a .args .edges))) mostNodes,
     )
 
 slice-aggregate-sweep-from : tie.Need-slice-aggregate-sweep-from

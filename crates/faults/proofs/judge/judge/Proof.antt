@@ -4,6 +4,7 @@ use Prim.Native.Nat.{ℕ}
 use Prim.Native.Nat.{_≤_}
 use denote.Ref.{now}
 use lib.ListN.{length}
+use Rattle.tables.specs.Rules.{mostNodes}
 use Rattle.history.specs.History.{History, historyOf}
 use Rattle.faults.proofs.SlotLaws.{slots-none, below-wide}
 use Rattle.faults.proofs.JudgeLaws.{no-overlap, on-overlap, on-gap, on-rest}
@@ -32,8 +33,8 @@ slice-aggregate-take-rows c = search needs
 take-rows-requires : tie.Need-take-rows-requires
 take-rows-requires c κs =
     let a = c .before .before .before .before .before in (
-      (a .pre .0 .edge-rows, below-wide (H a) (a .pre .0 .ruled) 1024 (a .pre .0 .ruled .few-nodes), omega arith),
-      slots-none _ _ 1024,
+      (a .pre .0 .edge-rows, below-wide (H a) (a .pre .0 .ruled) mostNodes (a .pre .0 .ruled .few-nodes), omega arith),
+      slots-none _ _ mostNodes,
     )
 
 slice-aggregate-first-overlap : tie.Need-slice-aggregate-first-overlap
@@ -89,10 +90,10 @@ slice-aggregate-after-gap c = search needs
 
 after-gap-requires : tie.Need-after-gap-requires
 after-gap-requires c κs =
-    let a =
-    c .before .before .before .before .before .before .before .before .before .before .before .before .before .before in (
+    let rows = c .before .before .before .before .before .before .before .before in
+    let a = rows .before .before .before .before .before .before in (
       (
-        long (c .before .before .before .before .before .before .before .before),
+        long rows,
         a .pre .0 .ruled .few-nodes,
         a .pre .0 .ruled .few-refs,
         a .pre .0 .ref-rows,
@@ -103,13 +104,11 @@ after-gap-requires c κs =
 
 returns-3 : tie.Need-returns-3
 returns-3 c =
-    let a =
-    c .before .before .before .before .before .before .before .before .before .before .before .before .before .before .before in
+    let rows = c .before .before .before .before .before .before .before .before .before in
+    let a = rows .before .before .before .before .before .before in
     let o = c .before .before .before .before .before .before .first-overlap .ensures in
     on-rest (H a) (a .args .t) (a .pre .0 .ruled)
-    (slots (c .before .before .before .before .before .before .before .before .before))
-    (long (c .before .before .before .before .before .before .before .before .before))
-    (c .before .before .before .before .before .before .before .before .before .take-rows .ensures) o (omega arith)
+    (slots rows) (long rows) (rows .take-rows .ensures) o (omega arith)
     (c .before .before .before .before .before .if1 .left)
     (now (a .args .first)) (now (a .args .last)) (a .pre .1 .0) (a .pre .1 .2)
     (c .before .before .before .first-gap .ensures) (c .before .before .if2 .left)

@@ -4,6 +4,7 @@ use Prim.Native.Nat.{ℕ}
 use Prim.Native.Nat.{_≤_}
 use denote.Ref.{now}
 use lib.ListN.{length}
+use Rattle.tables.specs.Rules.{mostNodes}
 use Rattle.history.specs.History.{History, historyOf}
 use Rattle.faults.proofs.SlotLaws.{slots-none, below-wide}
 use Rattle.faults.proofs.JudgeLaws.{no-overlap, shown-overlap, shown-rest}
@@ -27,8 +28,8 @@ slice-aggregate-take-rows c = search needs
 take-rows-requires : tie.Need-take-rows-requires
 take-rows-requires c κs =
     let a = c .before .before .before in (
-      (a .pre .edge-rows, below-wide (H a) (a .pre .ruled) 1024 (a .pre .ruled .few-nodes), omega arith),
-      slots-none _ _ 1024,
+      (a .pre .edge-rows, below-wide (H a) (a .pre .ruled) mostNodes (a .pre .ruled .few-nodes), omega arith),
+      slots-none _ _ mostNodes,
     )
 
 slice-aggregate-first-overlap : tie.Need-slice-aggregate-first-overlap

@@ -1,5 +1,5 @@
 use denote.Ref.{now}
-use Rattle.history.specs.History.{historyOf}
+use Rattle.tables.specs.Rows.{edgeAt, refAt}
 use Rattle.faults.proofs.UntilLaws.{until-both}
 use borrow.Author.Needs.{needs}
 use Rattle.faults.proofs.until.until.Statement.{statement}
@@ -18,7 +18,7 @@ returns : tie.Need-returns
 returns c =
     let a = c .before .before .before .before .before .args in
     rw (c .smaller .ensures)
-    (until-both (historyOf (a .start) (a .n) (now (a .edges)) (a .m) (now (a .refs)) (a .k)) (a .t)
+    (until-both (a .m) (edgeAt (now (a .edges))) (a .k) (refAt (now (a .refs))) (a .t)
     (c .before .before .edges-until .ensures) (c .before .refs-until .ensures))
 
 pub until-spec : {M : Type 1} → statement M

@@ -5,6 +5,7 @@ use lib.ListN.{length, getD}
 use mathlib.Core.Bool.{true≢false, false≢true}
 use mathlib.Core.Path.{_≡_, refl, sym, _∙_}
 use Prim.Native.Nat.{ℕ, _≤_, _-_, _<_}
+use Rattle.tables.specs.Rules.{mostNodes}
 use Rattle.faults.specs.Marks.{Done}
 use Rattle.faults.proofs.WalkLaws.{ends-no-back}
 use Rattle.faults.proofs.MarkLaws.{marks-none}
@@ -13,7 +14,7 @@ use Rattle.faults.proofs.walk.settled.Tie as tie
 
 abbrev Inv-loop : tie.InvT-loop
 Inv-loop up n mark₀ start₀ mark start =
-    (start ≤ n) × (length mark ≡ 1024) × Done up n start mark × ((k : ℕ) → k < start → getD mark k 0 ≡ 0 → ⊥)
+    (start ≤ n) × (length mark ≡ mostNodes) × Done up n start mark × ((k : ℕ) → k < start → getD mark k 0 ≡ 0 → ⊥)
 
 abbrev μ-loop : tie.MeasureT-loop
 μ-loop up n mark₀ start₀ mark start = n - start
@@ -22,7 +23,7 @@ loop-holds : tie.Need-loop-holds Inv-loop μ-loop
 loop-holds c = (
   search needs,
   refl,
-  marks-none (c .before .args .up .now) (c .before .args .n) 1024 (c .before .pre .1),
+  marks-none (c .before .args .up .now) (c .before .args .n) mostNodes (c .before .pre .1),
   λ k l. absurd (omega arith),
 )
 

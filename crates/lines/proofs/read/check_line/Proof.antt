@@ -2,7 +2,7 @@ use mathlib.Core.Path.{sym, ap, _∙_}
 use denote.Ref.{now}
 use Rattle.lines.specs.Reads.{endOf}
 use Rattle.ground.proofs.ListLaws.{stands-within}
-use Rattle.lines.proofs.LineLaws.{has-is}
+use Rattle.lines.proofs.NumberLaws.{has-is}
 use Rattle.lines.proofs.StepLaws.{line-has, line-not}
 use Rattle.lines.proofs.GotLaws.{end-wrong}
 use borrow.Author.Needs.{needs}

@@ -7,7 +7,7 @@ use lib.ListN.{length}
 use Rattle.lines.specs.declared.form.Form.{Form}
 use Rattle.lines.specs.Reads.{numberAt}
 use Rattle.ground.proofs.ListLaws.{within, stands-within}
-use Rattle.lines.proofs.LineLaws.{has-is}
+use Rattle.lines.proofs.NumberLaws.{has-is}
 use Rattle.lines.proofs.StepLaws.{one-not, one-missing, one-mark, one-ok}
 use borrow.Author.Needs.{needs}
 use Rattle.lines.proofs.read.read_one.Statement.{statement}
