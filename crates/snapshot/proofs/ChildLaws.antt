@@ -10,6 +10,7 @@ use lib.Dec.{eqb}
 use borrow.Author.Tests.{eq-eqb, ne-eqb}
 use Rattle.ground.specs.Tests.{Tells}
 use Rattle.ground.specs.Sums.{sum, bit}
+use Rattle.ground.specs.Lists.{All}
 use Rattle.ground.proofs.TestLaws.{by-test, tells-and, tells-eq}
 use Rattle.ground.proofs.LeastLaws.{any-tells}
 use Rattle.ground.proofs.SumLaws.{sum-zero, sum-one}
@@ -19,7 +20,7 @@ use Rattle.tables.proofs.LabelLaws.{during-tells}
 use Rattle.history.specs.Faults.{Below}
 use Rattle.history.specs.Computed.{isInto}
 use Rattle.snapshot.specs.Snapshot.{below, isChild, childrenAt}
-use Rattle.snapshot.specs.Exact.{occurs, All, IsChild, Children}
+use Rattle.snapshot.specs.Exact.{occurs, IsChild, Children}
 use Rattle.snapshot.proofs.CountLaws.{occurs-all}
 
 -- two tests that tell the same are equal

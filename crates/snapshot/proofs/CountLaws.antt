@@ -7,9 +7,10 @@ use lib.Dec.{eqb}
 use lib.ListN.{length}
 use borrow.Author.Tests.{eq-eqb, ne-eqb}
 use Rattle.ground.specs.Sums.{sum, bit}
+use Rattle.ground.specs.Lists.{All}
 use Rattle.ground.proofs.SumLaws.{sum-add, sum-zero, sum-one}
 use Rattle.snapshot.specs.Walk.{Place, each, subtree}
-use Rattle.snapshot.specs.Exact.{times, occurs, All}
+use Rattle.snapshot.specs.Exact.{times, occurs}
 
 times-append : (x : ℕ) (xs ys : List Place) → times x (xs ++ ys) ≡ times x xs + times x ys
 unfolding times

@@ -18,7 +18,7 @@ use Rattle.history.specs.Faults.{Chain}
 use Rattle.history.proofs.Chains.{never-deep}
 use Rattle.history.proofs.RuledLaws.{ruled-below}
 use Rattle.history.proofs.Tree.{Tree}
-use Rattle.snapshot.specs.Depth.{mostRows, TooDeep, climbs, tooDeep}
+use Rattle.snapshot.specs.Depth.{mostDeep, TooDeep, climbs, tooDeep}
 use Rattle.snapshot.proofs.ChildLaws.{into-tells}
 
 module _ (m : ℕ) (E : ℕ → Edge) (t : ℕ) where
@@ -59,17 +59,17 @@ module _ (H : History) (t : ℕ) (r : Ruled H) where
   pub deep-tells : Tells (tooDeep H t) (TooDeep H t)
   unfolding tooDeep
   deep-tells =
-      Iff·trans (any-tells _ _ (climbs-tells (H .edges) (H .edge) t (suc mostRows)) (H .nodes)) (
+      Iff·trans (any-tells _ _ (climbs-tells (H .edges) (H .edge) t (suc mostDeep)) (H .nodes)) (
         λ (b, h, (a, is, c, l)). (a, b, is, c, omega arith),
         λ (a, b, is, c, h).
-            (b, deep-below a b is c (omega arith), last (H .edges) (H .edge) t (suc mostRows) a b is c (omega arith)),
+            (b, deep-below a b is c (omega arith), last (H .edges) (H .edge) t (suc mostDeep) a b is c (omega arith)),
       )
 
+  pub shallow : Tree (H .edges) (H .edge) t → TooDeep H t → ⊥
+  shallow tree (a, b, [], c, h) = omega arith
+  shallow tree (a, b, i ∷ is, c, h) =
+      let n = never-deep (H .edges) (H .edge) t (H .nodes) (ruled-below H r) (tree .no-cycle) a b i is c in
+      omega (arith, r .few-nodes)
+
   pub not-deep : Tree (H .edges) (H .edge) t → tooDeep H t ≡ false
-  not-deep tree = tells-fails (tooDeep H t) deep-tells (λ (a, b, is, c, h). short a b is c h)
-    where
-      short : (a b : ℕ) (is : List ℕ) → Chain (H .edges) (H .edge) t a b is → mostRows < length is → ⊥
-      short a b [] c h = omega arith
-      short a b (i ∷ is) c h =
-          let n = never-deep (H .edges) (H .edge) t (H .nodes) (ruled-below H r) (tree .no-cycle) a b i is c in
-          omega (arith, r .few-nodes)
+  not-deep tree = tells-fails (tooDeep H t) deep-tells (shallow tree)

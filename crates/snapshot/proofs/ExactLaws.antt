@@ -11,9 +11,10 @@ use lib.ListN.{length}
 use borrow.Author.Tests.{eq-eqb, ne-eqb}
 use Rattle.ground.specs.Tests.{Tells}
 use Rattle.ground.specs.Sums.{bit, count}
+use Rattle.ground.specs.Lists.{All}
 use Rattle.ground.proofs.TestLaws.{tells-and, tells-not, tells-eq, tells-fails}
 use Rattle.ground.proofs.SumLaws.{sum-ext, sum-add, sum-one}
-use Rattle.tables.specs.Rows.{Edge}
+use Rattle.tables.specs.Rows.{noNode, Edge}
 use Rattle.history.specs.History.{History, Ruled}
 use Rattle.history.specs.Faults.{Into, NoneInto, Chain, Here}
 use Rattle.history.proofs.Chains.{into-node, long-cycle}
@@ -22,8 +23,7 @@ use Rattle.history.proofs.RuledLaws.{ruled-below}
 use Rattle.history.proofs.SoundLaws.{here-dec}
 use Rattle.history.proofs.Tree.{Tree, same-row, some-chain}
 use Rattle.snapshot.specs.Walk.{Place, each, subtree}
-use Rattle.snapshot.specs.Snapshot.{noNode}
-use Rattle.snapshot.specs.Exact.{times, occurs, All, Children, Placed, isOther, Exact}
+use Rattle.snapshot.specs.Exact.{times, occurs, Children, Placed, isOther, Exact}
 use Rattle.snapshot.proofs.WalkLaws.{each-ext}
 use Rattle.snapshot.proofs.CountLaws.{last-row, no-row, occurs-all, walk-all, all-map, times-sum}
 

@@ -6,6 +6,7 @@ use Prim.Native.Nat.{ℕ, _*_, _≤_, _<_}
 use lib.Dec.{ltb}
 use lib.ListN.{length}
 use borrow.Author.Tests.{lt-ltb, le-ltb}
+use Rattle.ground.specs.Lists.{front}
 use Rattle.answers.specs.declared.Fault.{Fault}
 use Rattle.answers.specs.declared.Answer.{Answer}
 use Rattle.answers.specs.declared.Answer.the-variants.{Done, Early, Deep, Room}
@@ -17,7 +18,7 @@ use Rattle.history.specs.History.{History, Ruled, held}
 use Rattle.history.specs.Verdict.{Names, none, first}
 use Rattle.history.specs.Computed.{shownSay}
 use Rattle.history.proofs.ExistsLaws.{shown-named}
-use Rattle.snapshot.specs.Walk.{rowWidth, front}
+use Rattle.snapshot.specs.Walk.{rowWidth}
 use Rattle.snapshot.specs.Depth.{tooDeep}
 use Rattle.snapshot.specs.Snapshot.{placesOf, roomSays, ruledSays, snapshotSays, written, Outcome, NoneShown}
 use Rattle.snapshot.proofs.DepthLaws.{not-deep}

@@ -17,7 +17,8 @@ use Rattle.history.proofs.ComputedLaws.{present-tells}
 use Rattle.history.proofs.RuledLaws.{ruled-below}
 use Rattle.history.proofs.Tree.{Tree}
 use Rattle.faults.specs.Slots.{Leads, Slot, Slots, empty, single, several}
-use Rattle.snapshot.specs.Snapshot.{noNode, isChild, childrenOf, placesOf, NoneShown}
+use Rattle.tables.specs.Rows.{noNode}
+use Rattle.snapshot.specs.Snapshot.{isChild, childrenOf, placesOf, NoneShown}
 use Rattle.snapshot.specs.Lists.{kidsBy, placesBy}
 use Rattle.snapshot.specs.Exact.{Children, isOther, Exact}
 use Rattle.snapshot.proofs.WalkLaws.{subtree-ext}

@@ -5,11 +5,11 @@ use mathlib.Core.List.{List, _++_}
 use Prim.Native.Nat.{ℕ, _*_, _≤_, _<_}
 use native.Mathlib.Omega.{arith}
 use lib.ListN.{length, getD, drop}
-use Rattle.tables.specs.Rows.{Ref}
-use Rattle.snapshot.specs.Walk.{Place, subtree, rowWidth, flat, front}
-use Rattle.snapshot.specs.Snapshot.{noNode, referentAt}
+use Rattle.ground.specs.Lists.{front, All}
+use Rattle.tables.specs.Rows.{noNode, Ref}
+use Rattle.snapshot.specs.Walk.{Place, subtree, rowWidth, flat}
+use Rattle.snapshot.specs.Snapshot.{referentAt}
 use Rattle.snapshot.specs.Lists.{Lists, kidsOf, kidsBy, placesBy}
-use Rattle.snapshot.specs.Exact.{All}
 use Rattle.snapshot.proofs.WalkLaws.{flat-length, flat-ext, subtree-ext}
 use Rattle.snapshot.proofs.CountLaws.{walk-all}
 use Rattle.snapshot.proofs.ChildLaws.{below-all}

@@ -13,7 +13,8 @@ use borrow.Author.Tests.{lt-ltb, le-ltb, eq-eqb, ne-eqb}
 use Rattle.ground.specs.Least.{Before, Least, Passes, least}
 use Rattle.ground.proofs.TestLaws.{by-test}
 use Rattle.ground.proofs.LeastLaws.{least-none, least-tells, search-none, search-more, search-found, search-missed}
-use Rattle.snapshot.specs.Snapshot.{noNode, valueAt}
+use Rattle.tables.specs.Rows.{noNode}
+use Rattle.snapshot.specs.Snapshot.{valueAt}
 use Rattle.snapshot.specs.Lists.{Lists, Blank, putFirst}
 
 module _ (p : ℕ → Bool) (v : ℕ → ℕ) where

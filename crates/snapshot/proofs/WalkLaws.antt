@@ -4,8 +4,8 @@ use mathlib.Core.List.{List, [], _∷_, _++_, append-assoc}
 use Prim.Native.Nat.{ℕ, zero, suc, _-_, _*_, _<_}
 use native.Mathlib.Omega.{arith}
 use lib.ListN.{length}
+use Rattle.ground.specs.Lists.{All}
 use Rattle.snapshot.specs.Walk.{Place, each, subtree, rowWidth, rowOf, flat}
-use Rattle.snapshot.specs.Exact.{All}
 
 each-append : {A B : Type 0} (f : A → List B) (xs ys : List A) → each f (xs ++ ys) ≡ each f xs ++ each f ys
 unfolding each

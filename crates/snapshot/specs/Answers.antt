@@ -1,5 +1,6 @@
 -- When each answer of snapshot is given, in the document's words, and what the call promises. proofs/AnswersLaws.antt:
 -- `snapshotSays` is the one answer that this allows.
+--   H, rows    the history that is shown, and its number of rows
 --   Ready      the tables obey their rules, the instant is not before the start, and no fault but GAP holds there
 --   Answers    an answer of snapshot to an output of `room` numbers
 --   Snapshot   the call's answer, and what the output then holds
@@ -34,8 +35,8 @@ module _ (start : ℕ) (ns es rs : List ℕ) (t : ℕ) where
     pub begun : start ≤ t
     pub none : NoneShown H t
 
-  -- [01:What the calls answer] Snapshot: "1 to 5 in order, 23, then the fault at t of smallest code and place with GAP set
-  -- aside, 24, 21 (instant t, place: rows needed). Otherwise code 0, instant t, place k"
+  -- [01:What the calls answer] Snapshot: "1 to 5 in order, 23, then the fault at t of smallest code and place with GAP
+  -- set aside, 24, 21 (instant t, place: rows needed). Otherwise code 0, instant t, place k"
   pub data Answers (room : ℕ) : Answer → Type 0 where
     ruled-out : {a : Answer} → Gives start ns es rs a → refuses a ≡ true → Answers room a
     early : Obeys start ns es rs → t < start → Answers room (Early t)

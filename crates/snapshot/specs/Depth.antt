@@ -1,5 +1,7 @@
 -- Chains that are too long for a snapshot.
---   TooDeep   a chain in force has more than 1,023 rows; `tooDeep` is the test
+--   mostDeep   how many rows a chain may have
+--   TooDeep    a chain in force has more; `tooDeep` is the test
+--   climbs     k rows, all in force, lead up from a node
 -- proofs/DepthLaws.antt ties the two, and shows that no history without a cycle is too deep. Assumes nothing.
 use mathlib.Core.Bool.{Bool, true, _&&_}
 use mathlib.Core.List.{List}
@@ -11,12 +13,12 @@ use Rattle.history.specs.History.{History}
 use Rattle.history.specs.Faults.{Chain}
 use Rattle.history.specs.Computed.{isInto}
 
-abbrev pub mostRows : ℕ
-mostRows = 1023
+abbrev pub mostDeep : ℕ
+mostDeep = 1023
 
 -- [01:What the calls answer] DEEP "a chain in force at the instant has more than 1,023 rows"
 abbrev pub TooDeep : History → ℕ → Type 0
-TooDeep H t = (a : ℕ) × (b : ℕ) × (is : List ℕ) × Chain (H .edges) (H .edge) t a b is × (mostRows < length is)
+TooDeep H t = (a : ℕ) × (b : ℕ) × (is : List ℕ) × Chain (H .edges) (H .edge) t a b is × (mostDeep < length is)
 
 -- k rows, all in force, lead up from n. What a `let` binds waits: the search stops at a row that is not into n
 unfoldable pub climbs : ℕ → (ℕ → Edge) → ℕ → ℕ → ℕ → Bool
@@ -24,4 +26,4 @@ climbs m E t zero n = true
 climbs m E t (suc k) n = any (λ i. let rest = climbs m E t k (E i .parent) in isInto m E t n i && rest) m
 
 unfoldable pub tooDeep : History → ℕ → Bool
-tooDeep H t = any (climbs (H .edges) (H .edge) t (suc mostRows)) (H .nodes)
+tooDeep H t = any (climbs (H .edges) (H .edge) t (suc mostDeep)) (H .nodes)

@@ -1,6 +1,5 @@
 -- What it means that places are exactly what a history contains.
 --   times      how often a node stands among places; occurs: how often a number stands in a list
---   All        each element of a list has a property
 --   IsChild    a row from one node to another is in force
 --   Children   each node's list holds each of its children once, and nothing else
 --   Placed     a place's parent is right
@@ -17,14 +16,15 @@ use Prim.Native.Nat.{ℕ, _+_, _<_}
 use lib.Dec.{eqb}
 use lib.ListN.{length}
 use Rattle.ground.specs.Sums.{bit, count}
+use Rattle.ground.specs.Lists.{front, All}
 use Rattle.answers.specs.declared.Answer.{Answer}
 use Rattle.answers.specs.declared.Answer.the-variants.{Done}
-use Rattle.tables.specs.Rows.{Edge}
+use Rattle.tables.specs.Rows.{noNode, Edge}
 use Rattle.history.specs.History.{History}
 use Rattle.history.specs.Faults.{Into, Here}
 use Rattle.history.specs.Computed.{isHere}
-use Rattle.snapshot.specs.Walk.{Place, each, subtree, flat, front}
-use Rattle.snapshot.specs.Snapshot.{noNode, referentAt, childrenOf}
+use Rattle.snapshot.specs.Walk.{Place, each, subtree, flat}
+use Rattle.snapshot.specs.Snapshot.{referentAt, childrenOf}
 
 unfoldable pub times : ℕ → List Place → ℕ
 times x [] = 0
@@ -33,10 +33,6 @@ times x (y ∷ ys) = bit (eqb (y .node) x) + times x ys
 unfoldable pub occurs : ℕ → List ℕ → ℕ
 occurs x [] = 0
 occurs x (y ∷ ys) = bit (eqb y x) + occurs x ys
-
-abbrev pub All : {A : Type 0} → (A → Type 0) → List A → Type 0
-All P [] = Unit {0}
-All P (x ∷ xs) = P x × All P xs
 
 module _ (m : ℕ) (E : ℕ → Edge) (t : ℕ) where
   abbrev pub IsChild : ℕ → ℕ → Type 0
@@ -53,7 +49,7 @@ Placed H t x = ((x .node ≡ 0) × (x .parent ≡ noNode)) ⊎ IsChild (H .edges
 abbrev pub isOther : History → ℕ → ℕ → Bool
 isOther H t n = not (eqb n 0) && isHere H t n
 
--- [demand 2] "A snapshot shows exactly what was contained at its instant."
+-- [demand 2] "a snapshot shows exactly what was contained": at its instant
 pub record Exact (H : History) (t : ℕ) (ps : List Place) : Type 0 where
   pub once : (n : ℕ) → Here H t n → times n ps ≡ 1
   pub only : (n : ℕ) → (Here H t n → ⊥) → times n ps ≡ 0
@@ -65,7 +61,8 @@ abbrev pub treeOf : History → ℕ → ℕ → ℕ → List Place
 treeOf H t p n = subtree (childrenOf H t) (H .nodes) p n
 
 -- a successful answer, and what the output then holds
--- [01:What the calls answer] "a node is followed by the whole subtree of each child, children by rising node number"
+-- [01:What the calls answer] "a node is followed by the whole subtree of each child, children by rising node number";
+-- "the first 3k numbers of the output hold k rows, the rest unchanged"
 pub record Contained (H : History) (t : ℕ) (before : List ℕ) (r : Answer) (after : List ℕ) : Type 0 where
   pub places : List Place
   pub exact : Exact H t places

@@ -2,6 +2,7 @@
 --   Lists      the list holds a function's value for each of its places; Blank: it holds noNode everywhere
 --   putFirst   a number stored where noNode stands
 --   Links      the first child of each node, and the next sibling of each node. A number that is no node ends a run
+--   links      of two lists; linkTo: with a node before the children of its parent that are linked already
 --   linkFrom   the links once the nodes below a bound are linked, the last first
 --   follow     a run of siblings; kidsOf: the children of a node by the links
 --   Runs       each run goes on until its end
@@ -14,8 +15,9 @@ use mathlib.Core.List.{List, [], _∷_, _++_}
 use Prim.Native.Nat.{ℕ, zero, suc, _*_, _≤_, _<_}
 use lib.Dec.{ltb, eqb}
 use lib.ListN.{length, getD, set, drop}
+use Rattle.tables.specs.Rows.{noNode}
 use Rattle.snapshot.specs.Walk.{Place, subtree, rowWidth, flat}
-use Rattle.snapshot.specs.Snapshot.{noNode, below}
+use Rattle.snapshot.specs.Snapshot.{below}
 
 abbrev pub Lists : (ℕ → ℕ) → List ℕ → Type 0
 Lists f l = (n : ℕ) → n < length l → getD l n 0 ≡ f n

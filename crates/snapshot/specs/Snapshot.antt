@@ -1,12 +1,10 @@
 -- What the call snapshot answers and writes, computed. specs/Answers.antt says it in the document's words.
---   noNode       the number that stands for no node
 --   below        the numbers below a bound that pass a test, rising
 --   isChild      a row from one node to another is in force; childrenAt: a node's children
 --   placesAt     the root and what it contains, in the order of the rows
 --   valueAt      the number of the smallest row that passes a test
---   referentAt   a node's referent
+--   refersFrom   reference row i is in force from a node; referentAt: a node's referent
 --   childrenOf, placesOf, rowsOf   the same of a history at an instant, and the numbers of its rows
---   held     the history that whole tables hold
 --   roomSays     21; ruledSays: 23, faults, 24, 21; snapshotSays: 1 to 5, 23, faults, 24, 21
 --   written      what the output holds after an answer
 --   Outcome      a function answers so, and leaves the output so
@@ -20,23 +18,20 @@ use Prim.Native.Nat.{ℕ, zero, suc, _*_, _≤_}
 use lib.Dec.{ltb, eqb}
 use lib.ListN.{length}
 use Rattle.ground.specs.Least.{any, least}
+use Rattle.ground.specs.Lists.{front}
 use Rattle.answers.specs.declared.Fault.{Fault}
 use Rattle.answers.specs.declared.Answer.{Answer}
 use Rattle.answers.specs.declared.Answer.the-variants.{Done, Early, Deep, Room}
 use Rattle.answers.specs.Numbers.{refuses}
 use Rattle.answers.specs.Refusals.{when, _⨾_}
 use Rattle.tables.specs.Instants.{during}
-use Rattle.tables.specs.Rows.{Edge, Ref, edgeAt, refAt}
+use Rattle.tables.specs.Rows.{Edge, Ref, noNode, edgeAt, refAt}
 use Rattle.tables.specs.Says.{historySays}
 use Rattle.history.specs.History.{History, historyOf, Lent, held}
 use Rattle.history.specs.Verdict.{Shown}
 use Rattle.history.specs.Computed.{isInto, shownSay}
-use Rattle.snapshot.specs.Walk.{Place, subtree, rowWidth, flat, front}
+use Rattle.snapshot.specs.Walk.{Place, subtree, rowWidth, flat}
 use Rattle.snapshot.specs.Depth.{tooDeep}
-
--- [01:What the calls answer] "The root's parent is 4,294,967,295. Referent is .. 4,294,967,295 if there is none."
-abbrev pub noNode : ℕ
-noNode = 4294967295
 
 unfoldable pub below : (ℕ → Bool) → ℕ → List ℕ
 below p zero = []
@@ -92,7 +87,8 @@ ruledSays H t room =
 unfoldable pub snapshotSays : ℕ → List ℕ → List ℕ → List ℕ → ℕ → ℕ → Answer
 snapshotSays start ns es rs t room = historySays start ns es rs ⨾ ruledSays (held start ns es rs) t room
 
--- [01:What the calls answer] "No refusal writes to a lent table or buffer."
+-- [01:What the calls answer] "the first 3k numbers of the output hold k rows, the rest unchanged"; "No refusal writes
+-- to a lent table or buffer."
 unfoldable pub written : Answer → List ℕ → List ℕ → List ℕ
 written a rows out = cond (refuses a) out (front rows out)
 

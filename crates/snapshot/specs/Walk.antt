@@ -4,11 +4,9 @@
 --   subtree    the places of a node's subtree
 --   rowWidth   how many numbers a row of the output has: with src/walk.rt all that knows it
 --   row        the numbers of a row; rowOf: of a place; flat: of places
---   front      numbers at the front of a list, the rest as it was
 -- Assumes nothing.
 use mathlib.Core.List.{List, [], _∷_, _++_}
 use Prim.Native.Nat.{ℕ, zero, suc}
-use lib.ListN.{length, drop}
 
 pub record Place : Type 0 where
   pub node : ℕ
@@ -37,7 +35,3 @@ rowOf referent x = row (x .node) (x .parent) (referent (x .node))
 
 unfoldable pub flat : (ℕ → ℕ) → List Place → List ℕ
 flat referent = each (rowOf referent)
-
--- [01:What the calls answer] "the first 3k numbers of the output hold k rows, the rest unchanged"
-abbrev pub front : List ℕ → List ℕ → List ℕ
-front rows out = rows ++ drop (length rows) out

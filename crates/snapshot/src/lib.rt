@@ -2,10 +2,11 @@
 ghost use mathlib.Core.Path.{_≡_};
 ghost use Prim.Native.Nat.{ℕ, _*_, _≤_, _<_};
 ghost use lib.ListN.{length};
+ghost use Rattle.ground.specs.Lists.{front};
 ghost use Rattle.tables.specs.Rows.{refAt, HasRefs};
 ghost use Rattle.tables.specs.Rules.{mostNodes};
 ghost use Rattle.history.specs.History.{historyOf, Lent};
-ghost use Rattle.snapshot.specs.Walk.{rowWidth, flat, front};
+ghost use Rattle.snapshot.specs.Walk.{rowWidth, flat};
 ghost use Rattle.snapshot.specs.Snapshot.{referentAt, Clean, CleanSnapshot, RuledSnapshot};
 ghost use Rattle.snapshot.specs.Answers.{Snapshot};
 ghost use Rattle.snapshot.specs.Lists.{placesBy};
@@ -15,14 +16,13 @@ mod walk;
 
 use answers::Answer;
 use faults::judge::judge_shown;
-use faults::slots::NONE;
 use faults::slots::take_rows;
-use lists::NO_NODE;
 use lists::count_rows;
 use lists::link;
 use lists::list_referents;
 use tables::judge::MOST_NODES;
 use tables::judge::judge_history;
+use tables::rows::NO_NODE;
 use tables::rows::edge_count;
 use tables::rows::node_count;
 use tables::rows::ref_count;
@@ -32,9 +32,11 @@ use walk::walk;
 // The rows of the root and of the nodes to which a list gives a parent.
 fn show(parents: &[u32], n: usize, refs: &[u32], k: usize, t: u32, out: &mut [u32])
     requires { ⌜ (0 < n) × (n ≤ mostNodes) × (n ≤ length (now parents)) ⌝ }
-    requires { ⌜ HasRefs (now refs) k × ((i : ℕ) → i < k → (refAt (now refs) i .attribute < n) × (refAt (now refs) i .target < n)) ⌝ }
+    requires { ⌜ HasRefs (now refs) k
+        × ((i : ℕ) → i < k → (refAt (now refs) i .attribute < n) × (refAt (now refs) i .target < n)) ⌝ }
     requires { ⌜ length (placesBy (now parents) n) * rowWidth ≤ length (now out) ⌝ }
-    ensures { λ _. ⌜ now (out .exit) ≡ front (flat (referentAt k (refAt (now (refs .entry))) t) (placesBy (now (parents .entry)) n)) (now (out .entry)) ⌝ }
+    ensures { λ _. ⌜ now (out .exit) ≡ front (flat (referentAt k (refAt (now (refs .entry))) t)
+        (placesBy (now (parents .entry)) n)) (now (out .entry)) ⌝ }
 {
     let mut referents = [NO_NODE; MOST_NODES];
     list_referents(refs, k, t, &mut referents);
@@ -55,9 +57,10 @@ fn snapshot_rows(
     out: &mut [u32],
 ) -> Answer
     requires { ⌜ Clean n (now edges) m (now refs) k t ⌝ }
-    ensures { λ r. ⌜ CleanSnapshot n (now (edges .entry)) m (now (refs .entry)) k t (now (out .entry)) r (now (out .exit)) ⌝ }
+    ensures { λ r. ⌜ CleanSnapshot n (now (edges .entry)) m (now (refs .entry)) k t (now (out .entry)) r
+        (now (out .exit)) ⌝ }
 {
-    let mut parents = [NONE; MOST_NODES];
+    let mut parents = [NO_NODE; MOST_NODES];
     take_rows(edges, m, t, &mut parents);
     let rows = count_rows(&parents, n);
     if out.len() < rows * ROW_WIDTH {
@@ -79,7 +82,8 @@ fn snapshot_ruled(
     out: &mut [u32],
 ) -> Answer
     requires { ⌜ Lent start n (now edges) m (now refs) k ⌝ }
-    ensures { λ r. ⌜ RuledSnapshot (historyOf start n (now (edges .entry)) m (now (refs .entry)) k) t (now (out .entry)) r (now (out .exit)) ⌝ }
+    ensures { λ r. ⌜ RuledSnapshot (historyOf start n (now (edges .entry)) m (now (refs .entry)) k) t
+        (now (out .entry)) r (now (out .exit)) ⌝ }
 {
     if t < start {
         return Answer::Early(t);
@@ -100,7 +104,8 @@ pub fn snapshot(
     t: u32,
     out: &mut [u32],
 ) -> Answer
-    ensures { λ r. ⌜ Snapshot start (now (nodes .entry)) (now (edges .entry)) (now (refs .entry)) t (now (out .entry)) r (now (out .exit)) ⌝ }
+    ensures { λ r. ⌜ Snapshot start (now (nodes .entry)) (now (edges .entry)) (now (refs .entry)) t
+        (now (out .entry)) r (now (out .exit)) ⌝ }
 {
     let rules = judge_history(start, nodes, edges, refs);
     if rules.refuses() {

@@ -4,15 +4,13 @@ ghost use Prim.Native.Nat.{ℕ, _+_, _<_, _≤_};
 ghost use lib.Dec.{ltb};
 ghost use lib.ListN.{length, getD};
 ghost use Rattle.ground.specs.Sums.{count};
-ghost use Rattle.tables.specs.Rows.{refAt, HasRefs};
-ghost use Rattle.snapshot.specs.Snapshot.{noNode, referentAt};
+ghost use Rattle.tables.specs.Rows.{noNode, refAt, HasRefs};
+ghost use Rattle.snapshot.specs.Snapshot.{referentAt};
 ghost use Rattle.snapshot.specs.Lists.{Lists, Blank, putFirst, links, linkFrom};
+use tables::rows::NO_NODE;
 use tables::rows::ref_attribute;
 use tables::rows::ref_in_force;
 use tables::rows::ref_target;
-
-// The number that stands for no node.
-pub const NO_NODE: u32 = 4294967295;
 
 // Stores v at a, unless a number of a node stands there.
 fn put_first(l: &mut [u32], a: usize, v: u32)
@@ -27,7 +25,8 @@ fn put_first(l: &mut [u32], a: usize, v: u32)
 // The referent of each node.
 pub fn list_referents(refs: &[u32], k: usize, t: u32, referents: &mut [u32])
     requires { ⌜ HasRefs (now refs) k × Blank (now referents) ⌝ }
-    requires { ⌜ ((i : ℕ) → i < k → (refAt (now refs) i .attribute < length (now referents)) × (refAt (now refs) i .target < noNode)) ⌝ }
+    requires { ⌜ ((i : ℕ) → i < k → (refAt (now refs) i .attribute < length (now referents))
+        × (refAt (now refs) i .target < noNode)) ⌝ }
     ensures { λ _. ⌜ Lists (referentAt k (refAt (now (refs .entry))) t) (now (referents .exit)) ⌝ }
 {
     let mut i: usize = 0;
@@ -60,7 +59,8 @@ pub fn count_rows(parents: &[u32], n: usize) -> usize
 // Links the children of each node, the last first, so that they rise from the first child on.
 pub fn link(parents: &[u32], n: usize, first: &mut [u32], next: &mut [u32])
     requires { ⌜ (n ≤ noNode) × (n ≤ length (now parents)) × (n ≤ length (now first)) × (n ≤ length (now next)) ⌝ }
-    ensures { λ _. ⌜ links (now (first .exit)) (now (next .exit)) ≡ linkFrom (now (parents .entry)) n n (links (now (first .entry)) (now (next .entry))) ⌝ }
+    ensures { λ _. ⌜ links (now (first .exit)) (now (next .exit)) ≡ linkFrom (now (parents .entry)) n n
+        (links (now (first .entry)) (now (next .entry))) ⌝ }
 {
     let mut c = n;
     while c > 0 {

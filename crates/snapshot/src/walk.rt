@@ -2,7 +2,8 @@
 ghost use mathlib.Core.Path.{_≡_};
 ghost use Prim.Native.Nat.{_*_, _<_, _≤_};
 ghost use lib.ListN.{length};
-ghost use Rattle.snapshot.specs.Walk.{subtree, rowWidth, row, front};
+ghost use Rattle.ground.specs.Lists.{front};
+ghost use Rattle.snapshot.specs.Walk.{subtree, rowWidth, row};
 ghost use Rattle.snapshot.specs.Lists.{kidsOf, Runs, Walked};
 
 pub const ROW_WIDTH: usize = 3;
@@ -17,8 +18,8 @@ fn put_row(out: &mut [u32], node: u32, parent: u32, referent: u32)
     out[2] = referent;
 }
 
-// The subtree of a node fills the front of out, and the rest of out is lent on to the walk of each child. `left` counts the
-// nodes not yet on the chain, and falls. Answers the number of rows.
+// The subtree of a node fills the front of out, and the rest of out is lent on to the walk of each child. `left` counts
+// the nodes not yet on the chain, and falls. Answers the number of rows.
 pub fn walk(
     first: &[u32],
     next: &[u32],
@@ -30,8 +31,10 @@ pub fn walk(
     out: &mut [u32],
 ) -> usize
     requires { ⌜ Runs (now first) (now next) count × (node < count) × (count ≤ length (now referents)) ⌝ }
-    requires { ⌜ length (subtree (kidsOf (now first) (now next) count) left parent node) * rowWidth ≤ length (now out) ⌝ }
-    ensures { λ r. ⌜ Walked (subtree (kidsOf (now (first .entry)) (now (next .entry)) count) left parent node) (now (referents .entry)) (now (out .entry)) r (now (out .exit)) ⌝ }
+    requires { ⌜ length (subtree (kidsOf (now first) (now next) count) left parent node) * rowWidth
+        ≤ length (now out) ⌝ }
+    ensures { λ r. ⌜ Walked (subtree (kidsOf (now (first .entry)) (now (next .entry)) count) left parent node)
+        (now (referents .entry)) (now (out .entry)) r (now (out .exit)) ⌝ }
 {
     if left == 0 {
         return 0;

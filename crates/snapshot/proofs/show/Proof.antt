@@ -5,9 +5,10 @@ use mathlib.Core.Path.{_≡_, ap}
 use mathlib.Core.List.{List}
 use Prim.Native.Nat.{ℕ, _≤_}
 use lib.ListN.{length, getD, replicate, getD-replicate, length-replicate}
-use Rattle.tables.specs.Rows.{refAt}
+use Rattle.tables.specs.Rows.{noNode, refAt}
+use Rattle.tables.specs.Rules.{mostNodes}
 use Rattle.snapshot.specs.Walk.{Place, subtree, flat}
-use Rattle.snapshot.specs.Snapshot.{noNode, referentAt}
+use Rattle.snapshot.specs.Snapshot.{referentAt}
 use Rattle.snapshot.specs.Lists.{Blank, Links, Runs, kidsOf, placesBy}
 use Rattle.snapshot.proofs.LinkLaws.{link-runs, link-shows}
 use Rattle.snapshot.proofs.ShowLaws.{show-walk, show-rows, show-out}
@@ -18,14 +19,14 @@ abbrev entry : tie.After-link → tie.Start
 entry l = l .before .before .before .before .before .before .before .before .before
 
 -- lists that hold no node
-full : length (replicate 1024 noNode) ≡ 1024
-full = length-replicate 1024 noNode
+full : length (replicate mostNodes noNode) ≡ mostNodes
+full = length-replicate mostNodes noNode
 
-blank : Blank (replicate 1024 noNode)
-blank n h = getD-replicate 1024 n noNode 0 (rw full at h)
+blank : Blank (replicate mostNodes noNode)
+blank n h = getD-replicate mostNodes n noNode 0 (rw full at h)
 
 abbrev fresh : Links
-fresh = record { first = replicate 1024 noNode; next = replicate 1024 noNode }
+fresh = record { first = replicate mostNodes noNode; next = replicate mostNodes noNode }
 
 -- the links, and the referents
 abbrev links : tie.After-link → Links
@@ -34,7 +35,7 @@ links l = record { first = l .link .last .1 .1 .0; next = l .link .last .1 .1 .1
 abbrev referents : tie.After-link → List ℕ
 referents l = l .before .before .before .before .list-referents .last .1 .1 .1 .0
 
-few : (l : tie.After-link) → entry l .args .n ≤ length (replicate 1024 noNode)
+few : (l : tie.After-link) → entry l .args .n ≤ length (replicate mostNodes noNode)
 few l = rw full (entry l .pre .0 .1)
 
 abbrev kids : tie.After-link → ℕ → List ℕ

@@ -3,14 +3,16 @@ use borrow.Author.Needs.{needs}
 use native.Mathlib.Omega.{arith}
 use mathlib.Core.Path.{_≡_, ap, _∙_}
 use mathlib.Core.List.{List}
-use Prim.Native.Nat.{ℕ, _≤_}
+use Prim.Native.Nat.{ℕ, _+_, _≤_}
 use lib.Dec.{ltb}
 use lib.ListN.{length, getD}
+use Rattle.ground.specs.Lists.{front}
 use Rattle.ground.proofs.SumLaws.{count-le}
 use Rattle.tables.specs.Rows.{refAt}
+use Rattle.tables.specs.Rules.{mostNodes}
 use Rattle.history.specs.History.{History, historyOf}
 use Rattle.faults.proofs.SlotLaws.{below-wide, slots-none}
-use Rattle.snapshot.specs.Walk.{Place, flat, front}
+use Rattle.snapshot.specs.Walk.{Place, flat}
 use Rattle.snapshot.specs.Snapshot.{referentAt, placesOf, rowsOf}
 use Rattle.snapshot.specs.Lists.{placesBy}
 use Rattle.snapshot.proofs.RowLaws.{counted, walked}
@@ -50,7 +52,7 @@ same-places c =
     walked (H s) (s .args .t) (s .pre .lent .ruled) (s .pre .begun) (s .pre .none) (parents c) (long c)
     (taken c .take-rows .ensures)
 
-few-rows : (c : tie.After-count-rows) → c .count-rows .result ≤ 1025
+few-rows : (c : tie.After-count-rows) → c .count-rows .result ≤ mostNodes + 1
 few-rows c =
     let s = entry c in
     let some = count-le (λ x. ltb (getD (parents c) x 0) (s .args .n)) (s .args .n) in
@@ -63,7 +65,7 @@ take-rows-requires : tie.Need-take-rows-requires
 take-rows-requires c κs =
     let s = c .before .before .before .before in
     let k = s .pre .lent in
-    ((k .edge-rows, below-wide (H s) (k .ruled) 1024 (k .ruled .few-nodes), omega arith), slots-none _ _ 1024)
+    ((k .edge-rows, below-wide (H s) (k .ruled) mostNodes (k .ruled .few-nodes), omega arith), slots-none _ _ mostNodes)
 
 slice-aggregate-count-rows : tie.Need-slice-aggregate-count-rows
 slice-aggregate-count-rows c = search needs

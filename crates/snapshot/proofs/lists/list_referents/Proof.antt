@@ -7,8 +7,8 @@ use mathlib.Core.Bool.{Bool}
 use Prim.Native.Nat.{ℕ, _≤_, _<_, _-_}
 use lib.ListN.{length}
 use Rattle.tables.specs.Instants.{during}
-use Rattle.tables.specs.Rows.{Ref, refAt}
-use Rattle.snapshot.specs.Snapshot.{noNode, referentAt}
+use Rattle.tables.specs.Rows.{noNode, Ref, refAt}
+use Rattle.snapshot.specs.Snapshot.{referentAt}
 use Rattle.snapshot.specs.Lists.{Lists}
 use Rattle.snapshot.proofs.ValueLaws.{list-start, list-skip, list-put}
 use Rattle.snapshot.proofs.lists.list_referents.Statement.{statement}

@@ -11,8 +11,16 @@ use lib.ListN.{length, getD, length-drop}
 use Rattle.snapshot.specs.Walk.{Place, subtree, rowWidth}
 use Rattle.snapshot.specs.Lists.{follow, kidsOf}
 use Rattle.snapshot.proofs.WalkLaws.{peel}
-use Rattle.snapshot.proofs.PartLaws.{Part, part-start, part-long, part-room, part-fill, part-end, part-all}
-use Rattle.snapshot.proofs.PartLaws.{part-none}
+use Rattle.snapshot.proofs.PartLaws.{
+  Part,
+  part-start,
+  part-none,
+  part-long,
+  part-room,
+  part-fill,
+  part-end,
+  part-all,
+}
 use Rattle.snapshot.proofs.LinkLaws.{follow-stop}
 use Rattle.snapshot.proofs.walk.walk.Reads as walk
 use Rattle.snapshot.proofs.walk.walk.Kinds as walk-kinds
@@ -69,7 +77,8 @@ module _ (t : ℕ) where
       → (l .loop .rows * rowWidth ≤ length (l .loop .out)) × (length (l .loop .out) ≡ length (start l .args .out .now))
   long l =
       let s = start l in
-      let h = part-long (kids s) (s .args .left) (s .args .parent) (s .args .node) (referent s) _ _ _ _ (l .loop .inv) in
+      let a = s .args in
+      let h = part-long (kids s) (a .left) (a .parent) (a .node) (referent s) _ _ _ _ (l .loop .inv) in
       omega (arith, h, l .before .before .before .before .put-row .kept .0)
 
   -- the walk stands so at the loop, with the children `rest` to come
@@ -108,24 +117,11 @@ module _ (t : ℕ) where
       (c .if1 .taken) in
       record { rows = k; out = o }
 
-  walk-mul-put-row : walk-lts.Need-mul-put-row (calls t) (walk-at t) walk.Post walk-Inv-loop walk-μ-loop
-  walk-mul-put-row c = search needs
-
-  walk-shared-slice-read-put-row :
-      walk-lts.Need-shared-slice-read-put-row (calls t) (walk-at t) walk.Post walk-Inv-loop walk-μ-loop
-  walk-shared-slice-read-put-row c = search needs
-
   walk-put-row-requires : walk-lts.Need-put-row-requires (calls t) (walk-at t) walk.Post walk-Inv-loop walk-μ-loop
   walk-put-row-requires c κs =
       let s = c .before .before .before .before .before .before .before in
       let here = peel (kids s) (s .args .left) (s .args .parent) (s .args .node) (omega arith) in
       omega (arith, s .pre .1, ap length here)
-
-  walk-mul-c : walk-lts.Need-mul-c (calls t) (walk-at t) walk.Post walk-Inv-loop walk-μ-loop
-  walk-mul-c c = search needs
-
-  walk-shared-slice-read-c : walk-lts.Need-shared-slice-read-c (calls t) (walk-at t) walk.Post walk-Inv-loop walk-μ-loop
-  walk-shared-slice-read-c c = search needs
 
   walk-loop-holds : walk-lts.Need-loop-holds (calls t) (walk-at t) walk.Post walk-Inv-loop walk-μ-loop
   walk-loop-holds c =
@@ -136,9 +132,6 @@ module _ (t : ℕ) where
   walk-mul-at : walk-lts.Need-mul-at (calls t) (walk-at t) walk.Post walk-Inv-loop walk-μ-loop
   walk-mul-at c = omega (arith, long (c .before))
 
-  walk-sub-walk : walk-lts.Need-sub-walk (calls t) (walk-at t) walk.Post walk-Inv-loop walk-μ-loop
-  walk-sub-walk c = search needs
-
   walk-mul-walk : walk-lts.Need-mul-walk (calls t) (walk-at t) walk.Post walk-Inv-loop walk-μ-loop
   walk-mul-walk c = omega (arith, long (c .before))
 
@@ -147,9 +140,6 @@ module _ (t : ℕ) where
 
   walk-part-walk-start : walk-lts.Need-part-walk-start (calls t) (walk-at t) walk.Post walk-Inv-loop walk-μ-loop
   walk-part-walk-start c = omega (arith, long (c .before))
-
-  walk-part-walk-end : walk-lts.Need-part-walk-end (calls t) (walk-at t) walk.Post walk-Inv-loop walk-μ-loop
-  walk-part-walk-end c = search needs
 
   walk-walk-requires : walk-lts.Need-walk-requires (calls t) (walk-at t) walk.Post walk-Inv-loop walk-μ-loop
   walk-walk-requires c κs =
@@ -163,16 +153,6 @@ module _ (t : ℕ) where
       let l = c .before .before .before .before .before in
       let fits = room (c .before .before .before .before) in
       omega (arith, c .before .before .walk .ensures .rows, long l, start l .good)
-
-  walk-cast-j : walk-lts.Need-cast-j (calls t) (walk-at t) walk.Post walk-Inv-loop walk-μ-loop
-  walk-cast-j c = search needs
-
-  walk-mul-c-2 : walk-lts.Need-mul-c-2 (calls t) (walk-at t) walk.Post walk-Inv-loop walk-μ-loop
-  walk-mul-c-2 c = search needs
-
-  walk-shared-slice-read-c-2 :
-      walk-lts.Need-shared-slice-read-c-2 (calls t) (walk-at t) walk.Post walk-Inv-loop walk-μ-loop
-  walk-shared-slice-read-c-2 c = search needs
 
   walk-loop-less : walk-lts.Need-loop-less (calls t) (walk-at t) walk.Post walk-Inv-loop walk-μ-loop
   walk-loop-less c =
@@ -208,23 +188,23 @@ pub +walk-spec : {M : Type 1} → statement M
     walk-Inv-loop
     walk-μ-loop
     (walk-returns t)
-    (walk-mul-put-row t)
-    (walk-shared-slice-read-put-row t)
+    (λ c. search needs)
+    (λ c. search needs)
     (walk-put-row-requires t)
-    (walk-mul-c t)
-    (walk-shared-slice-read-c t)
+    (λ c. search needs)
+    (λ c. search needs)
     (walk-loop-holds t)
     (walk-mul-at t)
-    (walk-sub-walk t)
+    (λ c. search needs)
     (walk-mul-walk t)
     (walk-sub-walk-2 t)
     (walk-part-walk-start t)
-    (walk-part-walk-end t)
+    (λ c. search needs)
     (walk-walk-requires t)
     (walk-add-rows t)
-    (walk-cast-j t)
-    (walk-mul-c-2 t)
-    (walk-shared-slice-read-c-2 t)
+    (λ c. search needs)
+    (λ c. search needs)
+    (λ c. search needs)
     (walk-loop-less t)
     (walk-loop-again t)
     (walk-same-length t)
