@@ -1,13 +1,14 @@
 -- What the next start and the last end tell of the rows into a child, and what they ask for. Assumes nothing.
 use mathlib.Core.Path.{_≡_, refl, sym, ap, _∙_}
-use mathlib.Core.Logic.{_↔_}
+use mathlib.Core.Logic.{_↔_, Dec·and}
 use mathlib.Core.Bool.{_&&_}
 use Prim.Native.Nat.{ℕ, zero, suc, _≤_, _<_}
+use native.Mathlib.Decide.{ℕ-discrete}
 use native.Mathlib.Omega.{arith}
 use lib.Dec.{ltb, eqb}
-use Rattle.ground.specs.Least.{any}
+use Rattle.ground.specs.Least.{Any, any}
 use Rattle.ground.proofs.TestLaws.{by-test, tells-and, tells-eq, tells-lt, tells-fail}
-use Rattle.ground.proofs.LeastLaws.{below-suc}
+use Rattle.ground.proofs.LeastLaws.{below-suc, any-dec}
 use Rattle.tables.specs.Rows.{Edge}
 use Rattle.repair.specs.Ends.{Row, sooner, nextStart, lastEnd, tied}
 use Rattle.repair.specs.Stays.{OnlyEnds}
@@ -24,6 +25,13 @@ sooner-tells a (suc n) t h = (
 )
 
 module _ (edge : ℕ → Edge) (c : ℕ) where
+  -- some of m rows into c has the number v as its start, or as its end
+  abbrev pub Some : (Edge → ℕ) → ℕ → ℕ → Type 0
+  Some f m v = Any (λ j. (edge j .child ≡ c) × (f (edge j) ≡ v)) m
+
+  pub some-dec : (f : Edge → ℕ) (m v : ℕ) → Dec (Some f m v)
+  some-dec f m v = any-dec _ (λ j. Dec·and (ℕ-discrete (edge j .child) c) (ℕ-discrete (f (edge j)) v)) m
+
   -- what holds of every row into c of m, and of row m if it is one, holds of every one of m + 1
   abbrev All : (ℕ → Type 0) → ℕ → Type 0
   All P m = (i : ℕ) → Row edge m c i → P i

@@ -1,6 +1,6 @@
 -- The table that a repair of m rows leaves: what stays, what is in force, and that a second repair changes nothing.
 -- Assumes nothing.
-use mathlib.Core.Path.{_≡_, refl, sym, ap, _∙_}
+use mathlib.Core.Path.{_≡_, refl, sym, ap, subst, _∙_}
 use mathlib.Core.Bool.{false}
 use mathlib.Core.List.{List}
 use Prim.Native.Nat.{ℕ, _≤_, _<_}
@@ -8,13 +8,13 @@ use native.Mathlib.Omega.{arith}
 use lib.ListN.{length}
 use Rattle.tables.specs.Rows.{Edge, edgeAt, HasEdges}
 use Rattle.history.specs.Faults.{Overlap, Gap}
-use Rattle.repair.specs.Ends.{NewEnd, tied, lastEnd, newEnd, repaired}
+use Rattle.repair.specs.Ends.{Largest, NewEnd, tied, newEnd, repaired}
 use Rattle.repair.specs.Stays.{OnlyEnds, Stay, OneLatest}
 use Rattle.repair.proofs.TieLaws.{untied}
 use Rattle.repair.proofs.StoreLaws.{ends-length, ends-frame, ends-same, ends-twice}
-use Rattle.repair.proofs.BoundLaws.{same-from, tied-same}
+use Rattle.repair.proofs.BoundLaws.{same-from, row-after, tied-same}
 use Rattle.repair.proofs.StepLaws.{repaired-row}
-use Rattle.repair.proofs.NewEndLaws.{from-le-new, new-end-sound}
+use Rattle.repair.proofs.NewEndLaws.{last-sound, from-le-new, new-end-sound, largest-unique}
 use Rattle.repair.proofs.StayLaws.{NewEnds, one-latest, last-stays, new-again}
 
 module _ (es : List ℕ) (m : ℕ) (has : HasEdges es m) where
@@ -45,8 +45,11 @@ module _ (es : List ℕ) (m : ℕ) (has : HasEdges es m) where
         let reached = from-le-new before m (before i .child) i (h, refl) right in
         omega (arith, same-from before after left-frame i, left-ends .ends i h)
 
-    pub left-last : (c : ℕ) → lastEnd after c m ≡ lastEnd before c m
-    left-last c = last-stays before after m left-ends c right
+    pub left-last : (c e : ℕ) → Largest before m c e → Largest after m c e
+    left-last c e x =
+        let (j, r, q) = x .end in
+        let same = last-stays before after m left-ends c right ∙ largest-unique (last-sound before m c j r) x in
+        subst (Largest after m c) same (last-sound after m c j (row-after before after left-frame m c j r))
 
     pub left-again : repaired (repaired es m) m ≡ repaired es m
     unfolding repaired

@@ -7,4 +7,5 @@ pub mod SaysLaws
 pub mod NewEndLaws
 pub mod StayLaws
 pub mod LeftLaws
+pub mod AnswersLaws
 pub mod Repaired

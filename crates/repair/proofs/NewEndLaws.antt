@@ -1,40 +1,36 @@
--- The computed new end is the document's: one before the next later start, and the largest end for the latest row.
--- Assumes nothing.
+-- The computed new end is the document's, and the only one: one before the next later start, and the largest end for
+-- the latest row. Assumes nothing.
 use mathlib.Core.Path.{_≡_, refl, _∙_}
-use mathlib.Core.Logic.{_↔_}
+use mathlib.Core.Logic.{_↔_, Dec·and}
 use Prim.Native.Nat.{ℕ, zero, suc, _+_, _≤_, _<_}
+use native.Mathlib.Decide.{ℕ-discrete, decLt}
 use native.Mathlib.Omega.{arith}
-use lib.Dec.{eqb}
-use Rattle.ground.specs.Least.{Any}
-use Rattle.ground.proofs.TestLaws.{tells-and, tells-eq, tells-dec}
-use Rattle.ground.proofs.LeastLaws.{not-lt→le, any-dec}
+use Rattle.ground.specs.Least.{Any, Least}
+use Rattle.ground.proofs.LeastLaws.{not-lt→le, not-le→lt, any-dec, least-exists}
 use Rattle.tables.specs.Rows.{Edge}
 use Rattle.repair.specs.Ends.{Row, Next, Largest, NewEnd, nextStart, lastEnd, endBefore, newEnd}
-use Rattle.repair.proofs.BoundLaws.{Until, last-tells, last-upper, next-tells}
+use Rattle.repair.proofs.BoundLaws.{Some, some-dec, Until, last-tells, last-upper, next-tells}
 
 module _ (edge : ℕ → Edge) (m c : ℕ) where
-  abbrev EndsAt : ℕ → ℕ → Type 0
-  EndsAt e j = (edge j .child ≡ c) × (edge j .to ≡ e)
-
-  ends-dec : (e j : ℕ) → Dec (EndsAt e j)
-  ends-dec e j = tells-dec _ (tells-and (eqb (edge j .child) c) (eqb (edge j .to) e) (tells-eq _ _) (tells-eq _ _))
+  abbrev Ends : ℕ → Type 0
+  Ends = Some edge c (λ x. x .to) m
 
   -- some row into c ends at the last end: were there none, an earlier bound would do
-  last-found : (i : ℕ) → Row edge m c i → Any (EndsAt (lastEnd edge c m)) m
-  last-found i r = go (any-dec (EndsAt (lastEnd edge c m)) (ends-dec (lastEnd edge c m)) m)
+  last-found : (i : ℕ) → Row edge m c i → Ends (lastEnd edge c m)
+  last-found i r = go (some-dec edge c (λ x. x .to) m (lastEnd edge c m))
     where
-      none-at : (Any (EndsAt (lastEnd edge c m)) m → ⊥) → (l : ℕ) → lastEnd edge c m ≡ l → ⊥
+      none-at : (Ends (lastEnd edge c m) → ⊥) → (l : ℕ) → lastEnd edge c m ≡ l → ⊥
       none-at none zero e = none (i, r .0, (r .1, omega (arith, last-upper edge c m i r)))
       none-at none (suc l) e = let h = last-tells edge c l m .1 below in omega arith
         where
           below : (j : ℕ) → Row edge m c j → edge j .to ≤ l
           below j q = not-lt→le (λ b. none (j, q .0, (q .1, omega (arith, last-upper edge c m j q))))
 
-      go : Dec (Any (EndsAt (lastEnd edge c m)) m) → Any (EndsAt (lastEnd edge c m)) m
+      go : Dec (Ends (lastEnd edge c m)) → Ends (lastEnd edge c m)
       go (yes s) = s
       go (no none) = absurd (none-at none (lastEnd edge c m) refl)
 
-  last-sound : (i : ℕ) → Row edge m c i → Largest edge m c (lastEnd edge c m)
+  pub last-sound : (i : ℕ) → Row edge m c i → Largest edge m c (lastEnd edge c m)
   last-sound i r = let (j, h, q) = last-found i r in record { end = (j, (h, q .0), q .1); most = last-upper edge c m }
 
 -- an end is before the next start, and reaches what is before it and no later than the last end
@@ -122,3 +118,56 @@ module _ (edge : ℕ → Edge) (m i : ℕ) (h : i < m) where
     where
       none-clear : ((j : ℕ) → Row edge m c j → edge j .from ≤ edge i .from) → (t : ℕ) → Clear edge m c i t
       none-clear none t j q l = let g = none j q in absurd (omega arith)
+
+-- and no other end is
+pub largest-unique : {edge : ℕ → Edge} {m c e d : ℕ} → Largest edge m c e → Largest edge m c d → e ≡ d
+largest-unique x y =
+    let (j, r, p) = x .end in
+    let (k, q, t) = y .end in
+    omega (arith, y .most j r, x .most k q)
+
+module _ (edge : ℕ → Edge) (m i : ℕ) where
+  abbrev child : ℕ
+  child = edge i .child
+
+  -- a start later than that of row i, of a row into its child; the smallest is the next
+  abbrev Later : ℕ → Type 0
+  Later s = (edge i .from < s) × Some edge child (λ x. x .from) m s
+
+  later-dec : (s : ℕ) → Dec (Later s)
+  later-dec s = Dec·and (decLt (edge i .from) s) (some-dec edge child (λ x. x .from) m s)
+
+  later-row : (j : ℕ) → Row edge m child j → edge i .from < edge j .from → Later (edge j .from)
+  later-row j (h, q) b = (b, (j, h, (q, refl)))
+
+  next-least : {n s : ℕ} → Least Later n s → s < n → Next edge m i s
+  next-least l h =
+      let (later, (j, r, p)) = l .here h in
+      record {
+        later = later;
+        start = (j, (r, p .0), p .1);
+        least = λ k q b. not-lt→le (λ g. l .before (edge k .from) g (later-row k q b));
+      }
+
+  next-exists : (j : ℕ) → Row edge m child j → edge i .from < edge j .from → (s : ℕ) × Next edge m i s
+  next-exists j r b =
+      let (s, l) = least-exists Later later-dec (suc (edge j .from)) in
+      (s, next-least l (not-le→lt (λ h. l .before (edge j .from) h (later-row j r b))))
+
+  abbrev After : ℕ → Type 0
+  After j = (edge j .child ≡ child) × (edge i .from < edge j .from)
+
+  after-dec : (j : ℕ) → Dec (After j)
+  after-dec j = Dec·and (ℕ-discrete (edge j .child) child) (decLt (edge i .from) (edge j .from))
+
+  pub new-end-unique : {e d : ℕ} → NewEnd edge m i e → NewEnd edge m i d → e ≡ d
+  new-end-unique {e} {d} x y = go (any-dec After after-dec m)
+    where
+      go : Dec (Any After m) → e ≡ d
+      go (yes (j, h, q)) =
+          let (s, n) = next-exists j (h, q .0) (q .1) in
+          omega (arith, x .before-next s n, y .before-next s n)
+      go (no none) = largest-unique (x .latest latest) (y .latest latest)
+        where
+          latest : (j : ℕ) → Row edge m child j → edge j .from ≤ edge i .from
+          latest j (h, q) = not-lt→le (λ b. none (j, h, (q, b)))

@@ -1,45 +1,43 @@
--- The theorems on repair. `left` is the containment table that a call leaves, `rows` how many rows it has.
+-- The theorems on repair, each of a call that answered r and left the containment table `left`: what the contract
+-- promises is all that they ask for. `rows` is how many rows the table has.
+--   answers-unique    two answers whose conditions hold are the same
+--   repaired-unique   two outcomes that the contract allows are the same
 --   only-ends         parents, children, starts and the order of rows stay, whatever the answer
 --   refused-frame     a refused call leaves the table as it was
---   repaired-unique   two outcomes that the contract allows are the same
+--   answer-exact      an answer whose condition holds is the one that is given
+--   tie-named         where the rules hold and a row is tied, code 22 names the smallest such row and its start
 --   done-tells        code 0 is given exactly if the tables obey the rules and no row is tied
---   tie-named         where they obey the rules and a row is tied, code 22 names the smallest such row and its start
 -- and where the call answers code 0:
 --   done-place        the place is the number of rows whose end differs
---   done-ends         each row ends one instant before the next later start, the latest at the largest end of its child
+--   done-ends         each row ends one instant before the next later start, the latest at its child's largest end
 --   done-one          throughout a child's stay exactly one row into it is in force, the one that started last
 --   done-last         a child's last end stays
 --   done-no-overlap, done-no-gap   codes 11 and 12 hold nowhere afterwards
 --   done-again        repairing again changes nothing
 -- Assumes nothing.
-use mathlib.Core.Path.{_≡_, refl, sym, ap, _∙_}
+use mathlib.Core.Path.{_≡_, refl, sym, ap, subst, _∙_}
 use mathlib.Core.Logic.{_↔_}
 use mathlib.Core.Bool.{true, false}
 use mathlib.Core.List.{List}
 use Prim.Native.Nat.{ℕ, _≤_, _<_, _/_}
 use native.Mathlib.Omega.{arith}
 use lib.ListN.{length}
-use Rattle.ground.specs.Least.{Before, Least}
+use Rattle.ground.specs.Least.{Before}
 use Rattle.ground.proofs.TestLaws.{by-test}
-use Rattle.ground.proofs.LeastLaws.{least-unique, least-tells}
 use Rattle.answers.specs.declared.Answer.{Answer}
 use Rattle.answers.specs.declared.Answer.the-variants.{Done, Tie}
 use Rattle.answers.specs.Numbers.{refuses}
-use Rattle.answers.proofs.AnswerLaws.{both-pass}
 use Rattle.tables.specs.Rows.{edgeWidth, nodeAt, edgeAt, nodeCount, edgeCount, HasEdges}
 use Rattle.tables.specs.Rules.{EdgeRule}
-use Rattle.tables.specs.Says.{containmentSays, Contained}
-use Rattle.tables.proofs.SaysLaws.{contained-tells}
+use Rattle.tables.specs.Says.{ObeysContainment}
+use Rattle.tables.specs.Gives.{Smallest}
 use Rattle.history.specs.Faults.{Overlap, Gap}
-use Rattle.repair.specs.Ends.{Tied, NewEnd, tied, lastEnd, repaired, changed}
+use Rattle.repair.specs.Ends.{Tied, Largest, NewEnd, tied, repaired, changed}
 use Rattle.repair.specs.Stays.{OnlyEnds, Stay, OneLatest}
-use Rattle.repair.specs.Says.{settleSays, repairSays, repairLeaves, Repaired}
-use Rattle.repair.proofs.TieLaws.{tied-tells, untied-tells}
-use Rattle.repair.proofs.SaysLaws.{on-tie, untied-settle, settle-untied, changed-none}
+use Rattle.repair.specs.Answers.{Mended, Answers, Repaired, tie, done}
+use Rattle.repair.proofs.TieLaws.{untied-tells}
+use Rattle.repair.proofs.SaysLaws.{changed-none}
 use Rattle.repair.proofs.LeftLaws.{
-  left-length,
-  left-frame,
-  left-new,
   left-right,
   left-last,
   left-again,
@@ -48,91 +46,90 @@ use Rattle.repair.proofs.LeftLaws.{
   left-no-overlap,
   left-no-gap,
 }
+use Rattle.repair.proofs.AnswersLaws.{
+  mended-repaired,
+  answers-is,
+  done-given,
+  repaired-left,
+  outcome-of,
+}
 
-module _ (start : ℕ) (ns es : List ℕ) where
+pub answers-unique : {start : ℕ} {ns es : List ℕ} {a b : Answer} → Answers start ns es a → Answers start ns es b → a ≡ b
+answers-unique {start} {ns} {es} x y = answers-is start ns es x ∙ sym (answers-is start ns es y)
+
+pub repaired-unique : {start : ℕ} {ns es : List ℕ} {r q : Answer} {a b : List ℕ}
+    → Repaired start ns es r a → Repaired start ns es q b → (r ≡ q) × (a ≡ b)
+repaired-unique x y =
+    let s = outcome-of x in
+    let t = outcome-of y in
+    (s .answer ∙ sym (t .answer), s .table ∙ sym (t .table))
+
+module _ {start : ℕ} {ns es : List ℕ} {r : Answer} {left : List ℕ} (x : Repaired start ns es r left) where
   abbrev rows : ℕ
   rows = edgeCount es
 
-  abbrev left : List ℕ
-  left = repairLeaves start ns es
-
-  has : HasEdges es rows
-  has = omega arith
-
-  pub refused-frame : refuses (repairSays start ns es) ≡ true → left ≡ es
-  unfolding repairLeaves
-  refused-frame t = rw t
-
-  done-leaves : refuses (repairSays start ns es) ≡ false → left ≡ repaired es rows
-  unfolding repairLeaves
-  done-leaves f = rw f
+  pub refused-frame : refuses r ≡ true → left ≡ es
+  refused-frame = x .kept
 
   pub only-ends : (length left ≡ length es) × OnlyEnds (edgeAt es) (edgeAt left)
   only-ends =
-      by-test (refuses (repairSays start ns es))
-      (λ t. rw (refused-frame t) (refl, λ i. refl))
-      (λ f. rw (done-leaves f) (left-length es rows has, left-frame es rows has))
+      by-test (refuses r)
+      (λ t. rw (x .kept t) (refl, λ i. refl))
+      (λ f. (x .mended f .size, x .mended f .frame))
 
-  pub repaired-unique : {r q : Answer} {a b : List ℕ}
-      → Repaired start ns es r a → Repaired start ns es q b → (r ≡ q) × (a ≡ b)
-  repaired-unique x y = (x .answer ∙ sym (y .answer), x .table ∙ sym (y .table))
+  pub answer-exact : {a : Answer} → Answers start ns es a → r ≡ a
+  answer-exact y = answers-unique (x .answer) y
 
-  ruled-says : Contained start ns es → repairSays start ns es ≡ settleSays es rows
-  unfolding repairSays
-  ruled-says o = rw (contained-tells start ns es .1 o)
+  pub tie-named : ObeysContainment start ns es → {i : ℕ} → Smallest (Tied (edgeAt es)) rows i → r ≡ Tie (edgeAt es i .from) i
+  tie-named o l = answer-exact (tie o l)
 
-  pub tie-named : Contained start ns es → {k : ℕ} → Least (Tied (edgeAt es)) rows k → k < rows
-      → repairSays start ns es ≡ Tie (edgeAt es k .from) k
-  tie-named o l h =
-      let first = least-tells (tied (edgeAt es)) (Tied (edgeAt es)) rows (λ i h. tied-tells (edgeAt es) i) in
-      ruled-says o ∙ sym (on-tie es rows (least-unique (Tied (edgeAt es)) l first) h refl .answer)
-
-  parts : refuses (repairSays start ns es) ≡ false
-      → (refuses (containmentSays start ns es) ≡ false) × (refuses (settleSays es rows) ≡ false)
-  unfolding repairSays
-  parts = both-pass (containmentSays start ns es) (settleSays es rows)
-
-  pub done-tells : (refuses (repairSays start ns es) ≡ false) ↔ (Contained start ns es × Before (Tied (edgeAt es)) rows)
+  pub done-tells : (refuses r ≡ false) ↔ (ObeysContainment start ns es × Before (Tied (edgeAt es)) rows)
   done-tells = (
-    λ f. let (a, b) = parts f in
-        (contained-tells start ns es .0 a, untied-tells (edgeAt es) rows .0 (settle-untied es rows b)),
-    λ (o, none). ap refuses (ruled-says o ∙ untied-settle es rows (untied-tells (edgeAt es) rows .1 none)),
+    done-given (x .answer),
+    λ (o, none). ap refuses (answer-exact (done o none (mended-repaired es))),
   )
 
-  module _ (done : refuses (repairSays start ns es) ≡ false) where
-    obeys : Contained start ns es
-    obeys = contained-tells start ns es .0 (parts done .0)
+  module _ (ok : refuses r ≡ false) where
+    -- what the laws of the computed table ask for, and that it is the one that is left
+    is-repaired : left ≡ repaired es rows
+    is-repaired = repaired-left x ok
+
+    has : HasEdges es rows
+    has = omega arith
+
+    obeys : ObeysContainment start ns es
+    obeys = done-tells .0 ok .0
 
     right : (i : ℕ) → i < rows → edgeAt es i .from ≤ edgeAt es i .to
     right i h = obeys .rows .edge-rule i h .label .ends
 
     none : (i : ℕ) → i < rows → tied (edgeAt es) i ≡ false
-    none = settle-untied es rows (parts done .1)
+    none = untied-tells (edgeAt es) rows .1 (done-tells .0 ok .1)
 
-    pub done-place : repairSays start ns es ≡ Done 0 (changed (edgeAt es) (edgeAt left) rows)
-    done-place = ruled-says obeys ∙ rw (done-leaves done) (untied-settle es rows none)
+    pub done-place : r ≡ Done 0 (changed (edgeAt es) (edgeAt left) rows)
+    done-place = answer-exact (done obeys (done-tells .0 ok .1) (x .mended ok))
 
     pub done-ends : (i : ℕ) → i < rows → NewEnd (edgeAt es) rows i (edgeAt left i .to)
-    done-ends = rw (done-leaves done) (left-new es rows has)
+    done-ends = x .mended ok .ends
 
     pub done-one : (c t : ℕ) → Stay (edgeAt es) rows c t → OneLatest (edgeAt es) (edgeAt left) rows c t
-    done-one = rw (done-leaves done) (left-one es rows has right none)
+    done-one = rw is-repaired (left-one es rows has right none)
 
-    pub done-last : (c : ℕ) → lastEnd (edgeAt left) c rows ≡ lastEnd (edgeAt es) c rows
-    done-last = rw (done-leaves done) (left-last es rows has right)
+    pub done-last : (c e : ℕ) → Largest (edgeAt es) rows c e → Largest (edgeAt left) rows c e
+    done-last = rw is-repaired (left-last es rows has right)
 
     pub done-no-overlap : (t c : ℕ) → Overlap rows (edgeAt left) t c → ⊥
-    done-no-overlap = rw (done-leaves done) (left-no-overlap es rows has right none)
+    done-no-overlap = rw is-repaired (left-no-overlap es rows has right none)
 
     pub done-no-gap : (t c : ℕ) → Gap rows (edgeAt left) t c → ⊥
-    done-no-gap = rw (done-leaves done) (left-no-gap es rows has right none)
+    done-no-gap = rw is-repaired (left-no-gap es rows has right none)
 
     -- the table that is left obeys the rules, has as many rows, none of them tied, and is its own repair
     count-stays : edgeCount left ≡ rows
     count-stays = ap (λ n. n / edgeWidth) (only-ends .0)
 
     ends-right : (i : ℕ) → i < rows → edgeAt left i .from ≤ edgeAt left i .to
-    ends-right = rw (done-leaves done) (left-right es rows has right)
+    ends-right = rw is-repaired (left-right es rows has right)
 
     rule-stays : (i : ℕ) → i < rows → EdgeRule start (nodeCount ns) (nodeAt ns) (edgeAt left i)
     rule-stays i h =
@@ -147,7 +144,7 @@ module _ (start : ℕ) (ns es : List ℕ) where
           label = record { begins = label .begins; ends = rw same at (ends-right i h); not-now = label .not-now };
         })
 
-    obeys-still : Contained start ns left
+    obeys-still : ObeysContainment start ns left
     obeys-still =
         record {
           nodes-size = obeys .nodes-size;
@@ -159,23 +156,22 @@ module _ (start : ℕ) (ns es : List ℕ) where
           };
         }
 
-    untied-still : (i : ℕ) → i < rows → tied (edgeAt left) i ≡ false
-    untied-still = rw (done-leaves done) (left-untied es rows has right none)
+    untied-still : Before (Tied (edgeAt left)) (edgeCount left)
+    untied-still =
+        rw count-stays (untied-tells (edgeAt left) rows .0 (rw is-repaired (left-untied es rows has right none)))
 
     own-repair : repaired left rows ≡ left
-    own-repair = rw (done-leaves done) (left-again es rows has right)
+    own-repair = rw is-repaired (left-again es rows has right)
 
-    again-says : repairSays start ns left ≡ Done 0 0
-    unfolding repairSays
-    again-says =
-        rw (contained-tells start ns left .1 obeys-still, count-stays)
-        (untied-settle left rows untied-still
-        ∙ ap (λ t. Done 0 (changed (edgeAt left) (edgeAt t) rows)) own-repair
-        ∙ ap (Done 0) (changed-none (edgeAt left) rows))
-
-    again-leaves : repairLeaves start ns left ≡ left
-    unfolding repairLeaves
-    again-leaves = rw (again-says, count-stays) own-repair
+    mended-still : Mended left left
+    mended-still = subst (Mended left) (ap (repaired left) count-stays ∙ own-repair) (mended-repaired left)
 
     pub done-again : Repaired start ns left (Done 0 0) left
-    done-again = record { answer = sym again-says; table = sym again-leaves }
+    done-again =
+        record {
+          answer =
+              subst (λ n. Answers start ns left (Done 0 n)) (changed-none (edgeAt left) (edgeCount left))
+              (done obeys-still untied-still mended-still);
+          kept = λ t. refl;
+          mended = λ f. mended-still;
+        }

@@ -11,14 +11,13 @@ use Rattle.ground.proofs.SumLaws.{sum-zero}
 use Rattle.answers.specs.declared.Answer.{Answer}
 use Rattle.answers.specs.declared.Answer.the-variants.{Done, Tie}
 use Rattle.answers.specs.Numbers.{refuses}
-use Rattle.answers.proofs.AnswerLaws.{both-pass}
 use Rattle.tables.specs.Rows.{Edge, edgeAt, edgeCount, HasEdges}
 use Rattle.tables.specs.Rules.{mostEdges}
-use Rattle.tables.specs.Says.{smallest, containmentSays}
-use Rattle.tables.proofs.SaysLaws.{none-bad, bad-none, contained-tells}
+use Rattle.tables.specs.Says.{containmentSays}
+use Rattle.tables.proofs.SaysLaws.{bad-none, contained-tells}
 use Rattle.repair.specs.Ends.{tied, newEnd, repaired, changed}
 use Rattle.repair.specs.Steps.{Written}
-use Rattle.repair.specs.Says.{tieAt, settleSays, settleLeaves, repairSays, repairLeaves, Settled, Repaired}
+use Rattle.repair.specs.Says.{tieAt, settleSays, settleLeaves, repairSays, repairLeaves, Settled, Outcome}
 use Rattle.repair.proofs.StepLaws.{changes-differ}
 
 -- the first tie is a row, or there is none
@@ -38,12 +37,12 @@ module _ (es : List ℕ) (m : ℕ) {row : ℕ} (er : row ≡ least (tied (edgeAt
 
 -- the tables break a rule, or obey them
 module _ (start : ℕ) (ns es : List ℕ) {r : Answer} (er : r ≡ containmentSays start ns es) where
-  pub on-refusal : refuses r ≡ true → Repaired start ns es r es
+  pub on-refusal : refuses r ≡ true → Outcome start ns es r es
   unfolding repairSays repairLeaves
   on-refusal t = record { answer = simp (← er, t); table = simp (← er, t) }
 
   pub on-rows : {q : Answer} {left : List ℕ} {m : ℕ} → refuses r ≡ false → m ≡ edgeCount es → Settled es m q left
-      → Repaired start ns es q left
+      → Outcome start ns es q left
   unfolding repairSays repairLeaves settleLeaves
   on-rows f em x = record { answer = simp (← er, f, ← em) (x .answer); table = simp (← er, f, ← em) (x .table) }
 
@@ -52,20 +51,11 @@ module _ (start : ℕ) (ns es : List ℕ) {r : Answer} (er : r ≡ containmentSa
       let (rows, e, lo, hi) = contained-tells start ns es .0 (ap refuses (sym er) ∙ f) .edges-size in
       omega arith
 
--- m rows pass if none is tied, and only then; what is said of them is then the count
-module _ (es : List ℕ) (m : ℕ) where
-  abbrev count : Answer
-  count = Done 0 (changed (edgeAt es) (edgeAt (repaired es m)) m)
-
-  pub untied-settle : ((i : ℕ) → i < m → tied (edgeAt es) i ≡ false) → settleSays es m ≡ count
-  unfolding settleSays
-  untied-settle none = rw (bad-none (tieAt es) (λ i. refl) (tied (edgeAt es)) m none)
-
-  pub settle-untied : refuses (settleSays es m) ≡ false → (i : ℕ) → i < m → tied (edgeAt es) i ≡ false
-  unfolding settleSays
-  settle-untied e =
-      none-bad (tieAt es) (λ i. refl) (tied (edgeAt es)) m
-      (both-pass (smallest (tieAt es) (tied (edgeAt es)) m) count e .0)
+-- of m rows of which none is tied the count is said
+pub untied-settle : (es : List ℕ) (m : ℕ) → ((i : ℕ) → i < m → tied (edgeAt es) i ≡ false)
+    → settleSays es m ≡ Done 0 (changed (edgeAt es) (edgeAt (repaired es m)) m)
+unfolding settleSays
+untied-settle es m none = rw (bad-none (tieAt es) (λ i. refl) (tied (edgeAt es)) m none)
 
 -- no row of a table differs from itself
 pub changed-none : (edge : ℕ → Edge) (m : ℕ) → changed edge edge m ≡ 0

@@ -1,17 +1,16 @@
 -- Stays under new ends: of the rows into a child the latest is in force, and no other. Assumes nothing.
-use mathlib.Core.Path.{_≡_, refl, sym, _∙_}
+use mathlib.Core.Path.{_≡_, refl, sym, ap, _∙_}
 use mathlib.Core.Logic.{⊎-elim}
 use Prim.Native.Nat.{ℕ, suc, _≤_, _<_}
 use native.Mathlib.Omega.{arith}
-use lib.Dec.{eqb}
-use Rattle.ground.specs.Least.{Any}
-use Rattle.ground.proofs.TestLaws.{tells-and, tells-eq, tells-dec}
-use Rattle.ground.proofs.LeastLaws.{not-lt→le, any-dec, Greatest, greatest-exists}
+use Rattle.ground.proofs.LeastLaws.{not-lt→le, Greatest, greatest-exists}
 use Rattle.tables.specs.Rows.{Edge}
 use Rattle.history.specs.Faults.{Into}
 use Rattle.repair.specs.Ends.{SameStart, Row, lastEnd, newEnd}
 use Rattle.repair.specs.Stays.{OnlyEnds, Stay, Latest, OneLatest}
 use Rattle.repair.proofs.BoundLaws.{
+  Some,
+  some-dec,
   last-upper,
   same-child,
   same-from,
@@ -24,14 +23,8 @@ use Rattle.repair.proofs.NewEndLaws.{new-clear, clear-new, new-le-last}
 
 -- where a row into c started up to t, one of those started last
 module _ (edge : ℕ → Edge) (m c t : ℕ) where
-  abbrev At : ℕ → ℕ → Type 0
-  At s i = (edge i .child ≡ c) × (edge i .from ≡ s)
-
-  at-dec : (s i : ℕ) → Dec (At s i)
-  at-dec s i = tells-dec _ (tells-and (eqb (edge i .child) c) (eqb (edge i .from) s) (tells-eq _ _) (tells-eq _ _))
-
   abbrev Starts : ℕ → Type 0
-  Starts s = Any (At s) m
+  Starts = Some edge c (λ x. x .from) m
 
   latest-at : (s : ℕ) → Greatest Starts (suc t) s → (i : ℕ) × Latest edge m c t i
   latest-at s (b, (i, r, p), above) = (
@@ -48,7 +41,7 @@ module _ (edge : ℕ → Edge) (m c t : ℕ) where
       ⊎-elim
       (λ (s, g). latest-at s g)
       (λ none. absurd (none (edge j .from) (omega arith) (j, h, (q, refl))))
-      (greatest-exists Starts (λ s. any-dec (At s) (at-dec s) m) (suc t))
+      (greatest-exists Starts (some-dec edge c (λ x. x .from) m) (suc t))
 
 -- rows e that become d: only ends change, and the m rows have their new ends
 pub record NewEnds (e d : ℕ → Edge) (m : ℕ) : Type 0 where
@@ -87,6 +80,7 @@ module _ (e d : ℕ → Edge) (m : ℕ) (x : NewEnds e d m) (c : ℕ) where
       record {
         row = i;
         latest = l;
+        parent = ap (λ (y : Edge). y .parent) (x .frame i);
         in-force = latest-in-force t i (omega (arith, last-upper e c m k p)) l;
         only = λ n f. same n i (in-force-latest t n f) l;
       }

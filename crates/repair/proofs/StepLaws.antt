@@ -1,17 +1,33 @@
--- The step that writes ends, and what the steps come to with the new ends. Assumes nothing.
+-- The steps that find and write ends, and what they come to with the new ends. Assumes nothing.
 use mathlib.Core.Path.{_≡_, refl, sym, ap, _∙_}
 use mathlib.Core.Bool.{not}
 use mathlib.Core.List.{List}
 use Prim.Native.Nat.{ℕ, _+_, _≤_, _<_}
 use native.Mathlib.Omega.{arith}
 use lib.Dec.{eqb}
+use lib.ListN.{length, set}
+use lib.Seq.{getD-set-other}
 use borrow.Author.Tests.{eq-eqb, ne-eqb}
 use Rattle.ground.specs.Sums.{sum, bit}
+use Rattle.ground.proofs.ListLaws.{set-below}
 use Rattle.ground.proofs.SumLaws.{sum-more, sum-ext, count-le}
 use Rattle.tables.specs.Rows.{Edge, edgeAt, HasEdges, withEnd, setEnd}
 use Rattle.repair.specs.Ends.{newEnd, withEnds, repaired, changed}
-use Rattle.repair.specs.Steps.{changes, Written}
+use Rattle.repair.specs.Steps.{Found, changes, Written}
 use Rattle.repair.proofs.StoreLaws.{ends-more, ends-rest, ends-done, ends-same}
+
+-- the finding loop at its beginning, and after a turn that stored at i
+pub found-none : (f : ℕ → ℕ) (xs : List ℕ) → Found f 0 xs xs
+found-none f xs = record { ends = λ i h. absurd (omega arith); rest = λ i h. refl }
+
+pub found-more : (f : ℕ → ℕ) (cur : List ℕ) (i : ℕ) {before : List ℕ} {v : ℕ} → i < length cur → Found f i before cur
+    → v ≡ f i
+    → Found f (i + 1) before (set cur i v)
+found-more f cur i {v = v} h x e =
+    record {
+      ends = set-below (λ k w. w ≡ f k) cur i v h (x .ends) e;
+      rest = λ k l. getD-set-other cur i k v 0 (omega arith) ∙ x .rest k (omega arith);
+    }
 
 -- the writing loop at its beginning
 pub written-none : (es : List ℕ) (f : ℕ → ℕ) → Written es f 0 0 es

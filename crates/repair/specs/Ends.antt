@@ -3,8 +3,10 @@
 --   Tied, tied             row i shares them with a smaller row; the test
 --   Row                    row i is one of the m rows into c
 --   Next, nextStart        the next start after that of row i; computed, after s among the rows into c, or 0 for none
+--   sooner                 the smaller of two starts, of which the second may be none
 --   Largest, lastEnd       the largest end among the rows into c; computed
 --   NewEnd, newEnd         row i's end after repair; computed
+--   endBefore              one instant before the next start, or the last end where there is none
 --   withEnds               the table whose first m rows have the ends that f says, and all else as it was
 --   repaired               the table after repair
 --   changed                how many of m rows have another end after than before

@@ -1,8 +1,9 @@
--- What repair answers, and what it leaves in the containment table.
+-- What repair answers, and what it leaves in the containment table, as computed. proofs/AnswersLaws.antt ties them to
+-- the words of Answers.antt.
 --   tieAt                      the tie that row i names
 --   settleSays, settleLeaves   of m rows that obey the rules: the tie, or the repair
 --   repairSays, repairLeaves   of any two tables
---   Settled, Repaired          an answer and a table afterwards that are these
+--   Settled, Outcome           an answer and a table afterwards that are these
 -- Assumes nothing.
 use mathlib.Core.Path.{_≡_}
 use mathlib.Core.Bool.{cond}
@@ -41,6 +42,6 @@ pub record Settled (es : List ℕ) (m : ℕ) (r : Answer) (left : List ℕ) : Ty
   pub answer : r ≡ settleSays es m
   pub table : left ≡ settleLeaves es m
 
-pub record Repaired (start : ℕ) (ns es : List ℕ) (r : Answer) (left : List ℕ) : Type 0 where
+pub record Outcome (start : ℕ) (ns es : List ℕ) (r : Answer) (left : List ℕ) : Type 0 where
   pub answer : r ≡ repairSays start ns es
   pub table : left ≡ repairLeaves start ns es

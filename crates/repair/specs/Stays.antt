@@ -3,7 +3,7 @@
 --   OnlyEnds    the rows are the same but for their ends
 --   Stay        t is within the stay of c: from its first start to its last end
 --   Latest      of the rows into c that started up to t, row i started last
---   OneLatest   exactly one row into c is in force at t, and it is the latest
+--   OneLatest   exactly one row into c is in force at t; it is the latest, and has the parent that it had
 -- Assumes nothing.
 use mathlib.Core.Path.{_≡_}
 use Prim.Native.Nat.{ℕ, _≤_}
@@ -30,5 +30,6 @@ pub record Latest (edge : ℕ → Edge) (m c t i : ℕ) : Type 0 where
 pub record OneLatest (before after : ℕ → Edge) (m c t : ℕ) : Type 0 where
   pub row : ℕ
   pub latest : Latest before m c t row
+  pub parent : after row .parent ≡ before row .parent
   pub in-force : Into m after t c row
   pub only : (k : ℕ) → Into m after t c k → k ≡ row

@@ -2,14 +2,14 @@
 -- shows that with the new ends they come to `repaired` and `changed`.
 --   Bounded   the next start after s among the first m rows into c, or 0 for none, and their largest end
 --   nth       number i of a list
---   Found     the list begins with f 0, f 1, .., f (m - 1)
+--   Found     the list begins with f 0, f 1, .., f (m - 1), and goes on as before
 --   changes   how many of the first m rows have another end than f says
 --   Written   the table with the ends that f says in its first m rows, n of which had another
 -- Assumes nothing.
 use mathlib.Core.Path.{_≡_}
 use mathlib.Core.Bool.{not}
 use mathlib.Core.List.{List}
-use Prim.Native.Nat.{ℕ, _<_}
+use Prim.Native.Nat.{ℕ, _≤_, _<_}
 use lib.Dec.{eqb}
 use lib.ListN.{getD}
 use Rattle.ground.specs.Sums.{count}
@@ -23,8 +23,9 @@ pub record Bounded (edge : ℕ → Edge) (m c s next last : ℕ) : Type 0 where
 abbrev pub nth : List ℕ → ℕ → ℕ
 nth xs i = getD xs i 0
 
-abbrev pub Found : (ℕ → ℕ) → ℕ → List ℕ → Type 0
-Found f m xs = (i : ℕ) → i < m → nth xs i ≡ f i
+pub record Found (f : ℕ → ℕ) (m : ℕ) (before after : List ℕ) : Type 0 where
+  pub ends : (i : ℕ) → i < m → nth after i ≡ f i
+  pub rest : (i : ℕ) → m ≤ i → nth after i ≡ nth before i
 
 unfoldable pub changes : (ℕ → Edge) → (ℕ → ℕ) → ℕ → ℕ
 changes edge f = count (λ i. not (eqb (edge i .to) (f i)))

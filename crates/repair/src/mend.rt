@@ -74,10 +74,10 @@ fn new_end(edges: &[u32], m: usize, i: usize) -> u32
     end_before(found.next, found.last)
 }
 
-// Finds the ends of the m rows after repair.
+// Finds the ends of the m rows after repair, and leaves the rest of `ends` as it was.
 fn find_ends(edges: &[u32], m: usize, ends: &mut [u32])
     requires { ⌜ HasEdges (now edges) m × (m ≤ length (now ends)) ⌝ }
-    ensures { λ _. ⌜ Found (newEnd (edgeAt (now (edges .entry))) m) m (now (ends .exit)) ⌝ }
+    ensures { λ _. ⌜ Found (newEnd (edgeAt (now (edges .entry))) m) m (now (ends .entry)) (now (ends .exit)) ⌝ }
 {
     let mut i = 0;
     while i < m {
@@ -107,7 +107,8 @@ fn write_ends(edges: &mut [u32], m: usize, ends: &[u32]) -> usize
 // Repairs the m rows, and says how many of them got another end.
 pub fn mend(edges: &mut [u32], m: usize) -> usize
     requires { ⌜ HasEdges (now edges) m × (m ≤ mostEdges) ⌝ }
-    ensures { λ r. ⌜ Written (now (edges .entry)) (newEnd (edgeAt (now (edges .entry))) m) m r (now (edges .exit)) ⌝ }
+    ensures { λ r. ⌜ Written (now (edges .entry)) (newEnd (edgeAt (now (edges .entry))) m) m r
+        (now (edges .exit)) ⌝ }
 {
     let mut ends = [0u32; MOST_EDGES];
     find_ends(edges, m, &mut ends);

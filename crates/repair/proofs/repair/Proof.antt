@@ -1,6 +1,7 @@
 use native.Mathlib.Omega.{arith}
 use mathlib.Core.Path.{sym, _∙_}
 use Rattle.repair.proofs.SaysLaws.{on-refusal, on-rows, rows-most}
+use Rattle.repair.proofs.AnswersLaws.{repaired-of}
 use borrow.Author.Needs.{needs}
 use Rattle.repair.proofs.repair.Statement.{statement}
 use Rattle.repair.proofs.repair.Tie as tie
@@ -17,7 +18,8 @@ same-length c = search needs
 returns : tie.Need-returns
 returns c =
     let asked = c .before in
-    on-refusal _ _ _ (asked .before .judge-containment .ensures) (sym (asked .refuses .ensures) ∙ c .if1 .taken)
+    repaired-of
+    (on-refusal _ _ _ (asked .before .judge-containment .ensures) (sym (asked .refuses .ensures) ∙ c .if1 .taken))
 
 edge-count-requires : tie.Need-edge-count-requires
 edge-count-requires c κs = search needs
@@ -39,8 +41,9 @@ returns-2 c =
     let counted = settle .before .before in
     let right = counted .before .before in
     let asked = right .before in
-    on-rows _ _ _ (asked .before .judge-containment .ensures) (sym (asked .refuses .ensures) ∙ right .if1 .left)
-    (counted .edge-count .ensures) (settle .settle .ensures)
+    repaired-of
+    (on-rows _ _ _ (asked .before .judge-containment .ensures) (sym (asked .refuses .ensures) ∙ right .if1 .left)
+    (counted .edge-count .ensures) (settle .settle .ensures))
 
 pub repair-spec : {M : Type 1} → statement M
 repair-spec =

@@ -1,25 +1,25 @@
 use borrow.Author.Needs.{needs}
 use native.Mathlib.Omega.{arith}
-use Prim.Native.Nat.{ℕ, _≤_, _-_}
+use Prim.Native.Nat.{_≤_, _-_}
 use mathlib.Core.Path.{_≡_}
 use lib.ListN.{length}
-use denote.Ref.{now}
-use Rattle.ground.proofs.ListLaws.{set-below}
 use Rattle.tables.specs.Rows.{edgeAt}
 use Rattle.repair.specs.Ends.{newEnd}
 use Rattle.repair.specs.Steps.{Found}
+use Rattle.repair.proofs.StepLaws.{found-none, found-more}
 use Rattle.repair.proofs.mend.find_ends.Statement.{statement}
 use Rattle.repair.proofs.mend.find_ends.Tie as tie
 
 -- before turn i the new ends of the rows below i are found
 abbrev Inv-loop : tie.InvT-loop
-Inv-loop edges m ends₀ i₀ ends i = (i ≤ m) × (length ends ≡ length ends₀) × Found (newEnd (edgeAt edges) m) i ends
+Inv-loop edges m ends₀ i₀ ends i =
+    (i ≤ m) × (length ends ≡ length ends₀) × Found (newEnd (edgeAt edges) m) i ends₀ ends
 
 abbrev μ-loop : tie.MeasureT-loop
 μ-loop edges m ends₀ i₀ ends i = m - i
 
 loop-holds : tie.Need-loop-holds Inv-loop μ-loop
-loop-holds c = (search needs, search needs, λ k h. absurd (omega arith))
+loop-holds c = (search needs, search needs, found-none _ _)
 
 new-end-requires : tie.Need-new-end-requires Inv-loop μ-loop
 new-end-requires c κs = search needs
@@ -38,19 +38,16 @@ loop-less c = search needs
 
 loop-again : tie.Need-loop-again Inv-loop μ-loop
 loop-again c =
-    let l = c .before .before .loop in
-    let a = c .before .before .before .before .before .args in
-    let f : ℕ → ℕ = newEnd (edgeAt (now (a .edges))) (a .m) in (
-      search needs,
-      search needs,
-      set-below (λ k v. v ≡ f k) (l .ends) (l .i) (c .new-end .result) (omega arith) (l .inv .2) (c .new-end .ensures),
-    )
+    let inv = c .before .before .loop .inv .2 in
+    (search needs, search needs, found-more _ _ _ (omega arith) inv (c .new-end .ensures))
 
 same-length : tie.Need-same-length Inv-loop μ-loop
 same-length c = search needs
 
 returns : tie.Need-returns Inv-loop μ-loop
-returns c = λ k h. c .before .loop .inv .2 k (omega arith)
+returns c =
+    let at-end : c .before .loop .i ≡ c .before .before .before .before .args .m = omega arith in
+    rw at-end at (c .before .loop .inv .2)
 
 pub find-ends-spec : {M : Type 1} → statement M
 find-ends-spec =

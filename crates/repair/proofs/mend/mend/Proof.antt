@@ -22,7 +22,7 @@ returns : tie.Need-returns
 returns c =
     let write = c .before .before in
     let find = write .before .before .before .before in
-    written-same _ _ _ _ (find .find-ends .ensures) (write .write-ends .ensures)
+    written-same _ _ _ _ (find .find-ends .ensures .ends) (write .write-ends .ensures)
 
 pub mend-spec : {M : Type 1} → statement M
 mend-spec =
