@@ -2,5 +2,6 @@ pub mod TextLaws
 pub mod RoundTrip
 pub mod SizeLaws
 pub mod WriteLaws
+pub mod ScanLaws
 pub mod ReadLaws
-pub mod CallLaws
+pub mod PromiseLaws

@@ -1,174 +1,33 @@
--- Read text, stage by stage, and what it leaves, case by case. Assumes nothing.
-use mathlib.Core.Bool.{true, false}
+-- Read text, its second pass, and what it leaves, case by case. Assumes nothing.
+use mathlib.Core.Bool.{true, false, false≢true}
 use mathlib.Core.List.{List, []}
-use mathlib.Core.Path.{_≡_, refl, sym, ap, ap₂, _∙_}
+use mathlib.Core.Logic.{_⊎_, inl, inr, ⊎-elim}
+use mathlib.Core.Path.{_≡_, sym, ap, subst, _∙_}
 use Prim.Native.Nat.{ℕ, _*_, _/_, _≤_}
 use native.Mathlib.Nat.{mul-div-cancel}
 use native.Mathlib.Omega.{arith}
-use lib.Dec.{ltb}
 use lib.ListN.{length}
-use borrow.Author.Tests.{ne-eqb, ltb-false}
+use borrow.Author.Tests.{lt-ltb, le-ltb}
 use Rattle.answers.specs.declared.Answer.{Answer}
 use Rattle.answers.specs.declared.Answer.the-variants.{Room, Text}
 use Rattle.answers.specs.Numbers.{refuses}
-use Rattle.answers.specs.Refusals.{when, _⨾_}
-use Rattle.answers.proofs.AnswerLaws.{both-pass, when-passes}
+use Rattle.answers.specs.Refusals.{passed}
 use Rattle.tables.specs.Rows.{nodeWidth, edgeWidth, refWidth, nodeCount, edgeCount, refCount}
-use Rattle.ground.proofs.ListLaws.{stands-within}
+use Rattle.ground.proofs.ListLaws.{stands-within, sets-front}
+use Rattle.ground.proofs.TestLaws.{by-lt}
 use Rattle.lines.specs.declared.read.Ended.the-variants.{At, Wrong}
-use Rattle.lines.specs.Reads.{Got, got, wrong, linesAt, endOf, isGot, gotOf, numbersOf, placeOf}
-use Rattle.lines.specs.Plans.{Plan, stop, lines, planAt}
-use Rattle.lines.proofs.GotLaws.{
-  got-place,
-  got-is,
-  got-of,
-  end-got,
-  end-wrong,
-  at-got,
-  at-wrong,
-  then-got,
-  then-wrong,
-  got-then,
-}
+use Rattle.lines.specs.Reads.{Got, got, wrong, linesAt, endOf, isGot, numbersOf, placeOf}
+use Rattle.lines.specs.Plans.{planAt}
+use Rattle.lines.proofs.GotLaws.{got-place, got-is, got-of, at-wrong, got-then}
 use Rattle.lines.proofs.LineLaws.{lines-is}
-use Rattle.lines.proofs.PlanLaws.{plan-is, follow-at}
-use Rattle.lines.proofs.AlongLaws.{Along, along-none, along-stop, along-lines, wrong-lines}
+use Rattle.lines.proofs.PlanLaws.{plan-is}
 use Rattle.text.specs.declared.read.Counts.{Counts}
-use Rattle.text.specs.declared.read.Head.the-variants.{Counted, Misplaced}
 use Rattle.text.specs.declared.read.Reading.{Reading}
-use Rattle.text.specs.Text.{
-  Tables,
-  startKey,
-  edgesKey,
-  refsKey,
-  nodeKey,
-  edgeKey,
-  refKey,
-  nodeForm,
-  edgeForm,
-  refForm,
-}
-use Rattle.text.specs.Reads.{
-  startForm,
-  edgesForm,
-  refsForm,
-  only,
-  countsPlan,
-  headPlan,
-  rowsPlan,
-  whole,
-  readText,
-  headOf,
-}
-use Rattle.text.proofs.RoundTrip.{whole-got, whole-end}
-use Rattle.text.specs.Answers.{roomSays, readSays, nothing, taken, told, Held, Taken}
-
--- ---- the first five lines: the plan of the counts, from each of its lines on
-
-abbrev pub lastPlan : ℕ → ℕ → ℕ → ℕ → Plan Counts
-lastPlan a n m r = stop (record { start = a; nodes = n; edges = m; refs = r })
-
-abbrev pub refsPlan : ℕ → ℕ → ℕ → Plan Counts
-refsPlan a n m = lines refsKey refsForm 1 λ r. lastPlan a n m (only r)
-
-abbrev pub edgesPlan : ℕ → ℕ → Plan Counts
-edgesPlan a n = lines edgesKey edgesForm 1 λ m. refsPlan a n (only m)
-
-abbrev pub startPlan : Plan Counts
-startPlan = lines startKey startForm 1 λ a. countsPlan (only a)
-
--- what their readers answer
-pub head-wrong : (r : Got Counts) {p : ℕ} → r ≡ wrong p → Misplaced p ≡ headOf r
-unfolding headOf
-head-wrong r e = rw e
-
-pub head-counted : (r : Got Counts) {c : Counts} {n : ℕ} → r ≡ got c n → Counted c n ≡ headOf r
-unfolding headOf
-head-counted r e = rw e
-
-pub misplaced-head : (r : Got Counts) (p : ℕ) → headOf r ≡ Misplaced p → r ≡ wrong p
-unfolding headOf
-misplaced-head (got c n) p e = let z : _≡_ {A = ℕ} 0 1 = cc in absurd (omega arith)
-misplaced-head (wrong q) p e = let h : q ≡ p = cc in ap wrong h
-
-pub counted-head : (r : Got Counts) (c : Counts) (n : ℕ) → headOf r ≡ Counted c n → r ≡ got c n
-unfolding headOf
-counted-head (got d m) c n e = let h : d ≡ c = cc in let k : m ≡ n = cc in ap₂ got h k
-counted-head (wrong q) c n e = let z : _≡_ {A = ℕ} 0 1 = cc in absurd (omega arith)
-
--- ---- and of the rows: what the reader that keeps no numbers has passed
-
-abbrev pub refRows : Counts → List ℕ → List ℕ → Plan Tables
-refRows c ns es =
-    lines refKey refForm (c .refs) λ rs. stop (record { start = c .start; nodes = ns; edges = es; refs = rs })
-
-abbrev pub edgeRows : Counts → List ℕ → Plan Tables
-edgeRows c ns = lines edgeKey edgeForm (c .edges) λ es. refRows c ns es
-
-module _ (s : List ℕ) (c : Counts) (at : ℕ) where
-  abbrev pub rows : Got Tables
-  rows = planAt (rowsPlan c) s at
-
-  abbrev pub NodesRead : ℕ → Type 0
-  NodesRead n = (ns : List ℕ) × Along (rowsPlan c) s at (edgeRows c ns) n
-
-  abbrev pub EdgesRead : ℕ → Type 0
-  EdgesRead n = (ns : List ℕ) × (es : List ℕ) × Along (rowsPlan c) s at (refRows c ns es) n
-
-  abbrev pub RowsRead : ℕ → Type 0
-  RowsRead n = (t : Tables) × (rows ≡ got t n)
-
-  module _ (h : at ≤ length s) where
-    pub nodes-read : {n : ℕ} → endOf (linesAt nodeKey nodeForm s (c .nodes) at) ≡ At n → NodesRead n
-    unfolding rowsPlan
-    nodes-read e = (_, along-lines (along-none (rowsPlan c) s at h) e)
-
-    pub nodes-wrong : {p : ℕ} → endOf (linesAt nodeKey nodeForm s (c .nodes) at) ≡ Wrong p → rows ≡ wrong p
-    unfolding rowsPlan
-    nodes-wrong e = wrong-lines (along-none (rowsPlan c) s at h) e
-
-  module _ {i : ℕ} (x : NodesRead i) where
-    pub edges-read : {n : ℕ} → endOf (linesAt edgeKey edgeForm s (c .edges) i) ≡ At n → EdgesRead n
-    edges-read e = (x .0, _, along-lines (x .1) e)
-
-    pub edges-wrong : {p : ℕ} → endOf (linesAt edgeKey edgeForm s (c .edges) i) ≡ Wrong p → rows ≡ wrong p
-    edges-wrong e = wrong-lines (x .1) e
-
-  module _ {i : ℕ} (x : EdgesRead i) where
-    pub refs-read : {n : ℕ} → endOf (linesAt refKey refForm s (c .refs) i) ≡ At n → RowsRead n
-    refs-read e = (_, along-stop (along-lines (x .2) e))
-
-    pub refs-wrong : {p : ℕ} → endOf (linesAt refKey refForm s (c .refs) i) ≡ Wrong p → rows ≡ wrong p
-    refs-wrong e = wrong-lines (x .2) e
-
--- ---- the whole text
-
--- after its first lines, the text is its rows
-pub read-counted : (s : List ℕ) (c : Counts) (at : ℕ) → planAt headPlan s 0 ≡ got c at
-    → readText s ≡ whole s (rows s c at)
-unfolding readText
-read-counted s c at e = ap (whole s) (follow-at headPlan rowsPlan s 0 ∙ then-got _ _ e)
-
-pub read-misplaced : (s : List ℕ) (p : ℕ) → planAt headPlan s 0 ≡ wrong p → readText s ≡ wrong p
-unfolding readText
-read-misplaced s p e = then-wrong _ _ (follow-at headPlan rowsPlan s 0 ∙ then-wrong _ _ e)
-
--- what the reader that keeps no numbers answers at the end
-module _ {A : Type 0} (s : List ℕ) (r : Got A) where
-  pub scan-wrong : (p : ℕ) → r ≡ wrong p → endOf (whole s r) ≡ Wrong p
-  scan-wrong p e = end-wrong _ (then-wrong _ r e)
-
-  pub scan-end : (a : A) (n : ℕ) → r ≡ got a n → n ≡ length s → endOf (whole s r) ≡ At n
-  scan-end a n e h = end-got _ (whole-end s r a n e h)
-
-  pub scan-more : (a : A) (n : ℕ) → r ≡ got a n → (n ≡ length s → ⊥) → endOf (whole s r) ≡ Wrong n
-  scan-more a n e h = end-wrong _ {p = n} (then-got _ r e ∙ rw (ne-eqb n (length s) h))
-
-pub scan-all : {A : Type 0} (s : List ℕ) (r : Got A) (n : ℕ) → endOf (whole s r) ≡ At n
-    → (a : A) × (r ≡ got a n) × (whole s r ≡ got a n)
-scan-all s r n e =
-    let (a, g) = at-got (whole s r) n e in
-    (a, whole-got s r a n g .0, g)
+use Rattle.text.specs.Text.{Tables, nodeKey, edgeKey, refKey, nodeForm, edgeForm, refForm}
+use Rattle.text.specs.Reads.{headPlan, rowsPlan, whole, readText, roomSays, Held}
+use Rattle.text.specs.Answers.{Accepted, nothing, readingOf, Fits, TooShort, nodes-short, edges-short, refs-short, Read, wrong-text, no-room, took}
+use Rattle.text.proofs.RoundTrip.{refused, not-of-form}
+use Rattle.text.proofs.ScanLaws.{rows, read-counted, scan-all}
 
 -- ---- the second pass, where all rows are right
 
@@ -255,9 +114,17 @@ module _ (s : List ℕ) (c : Counts) (at : ℕ) (t : Tables) (x : RowsRight s c 
       ≡ roomSays (length (t .nodes)) (length (t .edges)) (length (t .refs)) n e f
   room-asked n e f = rw (x .nodes-long, x .edges-long, x .refs-long)
 
+  pub room-counted : {n e f : List ℕ} → Fits t n e f
+      → (c .nodes * nodeWidth ≤ length n) × (c .edges * edgeWidth ≤ length e) × (c .refs * refWidth ≤ length f)
+  room-counted h = (
+    omega (arith, x .nodes-long, h .nodes),
+    omega (arith, x .edges-long, h .edges),
+    omega (arith, x .refs-long, h .refs),
+  )
+
   -- and the counts that the first lines tell are those of the tables
   pub counts-told : (a : Answer)
-      → record { answer = a; start = c .start; nodes = c .nodes; edges = c .edges; refs = c .refs } ≡ told a t
+      → record { answer = a; start = c .start; nodes = c .nodes; edges = c .edges; refs = c .refs } ≡ readingOf a t
   counts-told a =
       let s₀ : c .start ≡ t .start = ap (λ (u : Tables). u .start) (x .all) in
       let n : c .nodes ≡ nodeCount (t .nodes) = sym
@@ -268,40 +135,58 @@ module _ (s : List ℕ) (c : Counts) (at : ℕ) (t : Tables) (x : RowsRight s c 
       (ap (λ (k : ℕ). k / refWidth) (x .refs-long) ∙ mul-div-cancel (c .refs) (omega arith)) in
       cc
 
--- where room is not refused, it is there
-pub room-there : (a b d n e f : ℕ) → refuses (roomSays a b d n e f) ≡ false → (a ≤ n) × (b ≤ e) × (d ≤ f)
-unfolding roomSays
-room-there a b d n e f w =
-    let (x, yz) = both-pass (when (ltb n a) (Room 0 0)) (when (ltb e b) (Room 0 1) ⨾ when (ltb f d) (Room 0 2)) w in
-    let (y, z) = both-pass (when (ltb e b) (Room 0 1)) (when (ltb f d) (Room 0 2)) yz in (
-      ltb-false n a (when-passes (ltb n a) (Room 0 0) refl x),
-      ltb-false e b (when-passes (ltb e b) (Room 0 1) refl y),
-      ltb-false f d (when-passes (ltb f d) (Room 0 2) refl z),
-    )
+-- ---- the room that is judged, in words
+
+module _ (t : Tables) (n e f : List ℕ) where
+  abbrev pub judged : Answer
+  judged = roomSays (length (t .nodes)) (length (t .edges)) (length (t .refs)) (length n) (length e) (length f)
+
+  pub judged-short : {k : ℕ} → TooShort t n e f k → judged ≡ Room 0 k
+  unfolding roomSays
+  judged-short (nodes-short h) = rw (lt-ltb _ _ h)
+  judged-short (edges-short a h) = rw (le-ltb _ _ a, lt-ltb _ _ h)
+  judged-short (refs-short a b h) = rw (le-ltb _ _ a, le-ltb _ _ b, lt-ltb _ _ h)
+
+  pub judged-fits : Fits t n e f → judged ≡ passed
+  unfolding roomSays
+  judged-fits h = rw (le-ltb _ _ (h .nodes), le-ltb _ _ (h .edges), le-ltb _ _ (h .refs))
+
+  pub short-or-fits : ((k : ℕ) × TooShort t n e f k) ⊎ Fits t n e f
+  short-or-fits =
+      by-lt (length n) (length (t .nodes)) (λ x. inl (0, nodes-short x))
+      (λ a. by-lt (length e) (length (t .edges)) (λ y. inl (1, edges-short a y))
+      (λ b. by-lt (length f) (length (t .refs)) (λ z. inl (2, refs-short a b z))
+      (λ d. inr (record { nodes = a; edges = b; refs = d }))))
+
+  -- where room is not refused, it is there
+  pub room-there : refuses judged ≡ false → Fits t n e f
+  room-there w =
+      ⊎-elim (λ (k, x). absurd (false≢true (sym w ∙ ap refuses (judged-short x)))) (λ h. h) short-or-fits
 
 -- ---- what is left, case by case
 
-module _ (x : Got Tables) (n e f : List ℕ) where
-  kept : {r : Reading} {a : Answer} → refuses (readSays x (length n) (length e) (length f)) ≡ true
-      → a ≡ readSays x (length n) (length e) (length f)
-      → r ≡ told a nothing → Taken x r n e f n e f
-  unfolding taken
-  kept w q r = record { reading = r ∙ rw (w, q); held = rw w (record { nodes = refl; edges = refl; refs = refl }) }
+module _ (s n e f : List ℕ) where
+  pub read-wrong : {r : Reading} (p : ℕ) → readText s ≡ wrong p → r ≡ readingOf (Text p) nothing → Read s n e f r n e f
+  read-wrong p w g =
+      subst (λ (q : Reading). Read s n e f q n e f) (sym g) (wrong-text (not-of-form s p w) (refused s p w))
 
-  pub taken-text : (r : Reading) (p : ℕ) → x ≡ wrong p → r ≡ told (Text p) nothing → Taken x r n e f n e f
-  unfolding readSays
-  taken-text r p q g = kept (rw q) (rw q) g
+  module _ {t : Tables} (a : Accepted s t) {room : Answer} (says : room ≡ judged t n e f) where
+    pub read-short : {r : Reading} → refuses room ≡ true → r ≡ readingOf room nothing → Read s n e f r n e f
+    read-short w g =
+        ⊎-elim
+        (λ (k, x). rw (g, says, judged-short t n e f x) (no-room a x))
+        (λ h. absurd (false≢true (ap refuses (sym (says ∙ judged-fits t n e f h)) ∙ w)))
+        (short-or-fits t n e f)
 
-  module _ (t : Tables) (m : ℕ) (q : x ≡ got t m) (room : Answer)
-      (says : room ≡ roomSays (length (t .nodes)) (length (t .edges)) (length (t .refs)) (length n) (length e)
-      (length f)) where
-    pub taken-room : (r : Reading) → refuses room ≡ true → r ≡ told room nothing → Taken x r n e f n e f
-    unfolding readSays
-    taken-room r w g = kept (rw q (ap refuses (sym says) ∙ w)) (says ∙ rw q) g
-
-    pub taken-all : (r : Reading) (n′ e′ f′ : List ℕ) → refuses room ≡ false → r ≡ told room t → Held t n e f n′ e′ f′
-        → Taken x r n e f n′ e′ f′
-    unfolding readSays taken gotOf
-    taken-all r n′ e′ f′ w g h =
-        let p = ap refuses (sym says) ∙ w in
-        record { reading = g ∙ rw (q, p, says); held = rw (q, p) h }
+    pub read-all : {r : Reading} {n′ e′ f′ : List ℕ} → refuses room ≡ false → r ≡ readingOf room t
+        → Held t n e f n′ e′ f′ → Read s n e f r n′ e′ f′
+    read-all w g h =
+        let fit = room-there t n e f (ap refuses (sym says) ∙ w) in
+        rw (
+          g,
+          says,
+          judged-fits t n e f fit,
+          h .nodes ∙ sets-front n (t .nodes) (fit .nodes),
+          h .edges ∙ sets-front e (t .edges) (fit .edges),
+          h .refs ∙ sets-front f (t .refs) (fit .refs),
+        ) (took a fit)

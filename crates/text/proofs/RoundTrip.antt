@@ -3,7 +3,7 @@
 use mathlib.Core.List.{List, [], append-nil}
 use mathlib.Core.Path.{_≡_, refl, sym, ap, subst, _∙_}
 use mathlib.Core.Bool.{Bool, true, false}
-use mathlib.Core.Logic.{_↔_}
+use mathlib.Core.Logic.{_⊎_, inl, inr}
 use Prim.Native.Nat.{ℕ, _≤_}
 use native.Mathlib.Omega.{arith}
 use lib.Dec.{eqb}
@@ -25,6 +25,7 @@ use Rattle.lines.proofs.PlanLaws.{plan-of, plan-is, plan-past, FormsOk, plan-be
 use Rattle.text.specs.Text.{Tables, Lendable, edition, textLines, textOf}
 use Rattle.text.specs.Reads.{countsPlan, headPlan, rowsPlan, textPlan, whole, readText}
 use Rattle.text.specs.Place.{firstLines, FirstWrong}
+use Rattle.text.specs.Answers.{Accepted, NotOfForm}
 use Rattle.text.proofs.TextLaws.{text-prints, prints-text}
 
 -- ---- the end of the text
@@ -111,34 +112,30 @@ goes-past s p e t j n o st =
 
 -- ---- the theorems
 
--- [demand 2] "Tables written as text read back as the same tables"
+-- [demand 2] "tables written as text read back the same"
 pub read-of-write : (t : Tables) → Lendable t → readText (textOf t) ≡ got t (length (textOf t))
 unfolding readText
 read-of-write t o =
     let all = plan-of textPlan t (textLines t) (textOf t) 0 [] (text-prints t o) (sym (append-nil (textOf t))) in
     whole-end (textOf t) _ t (length (textOf t)) (all ∙ ap (got t) (omega arith)) refl
 
--- [demand 2] "and accepted text written again is the same text"
-pub write-of-read : (s : List ℕ) (t : Tables) (n : ℕ) → readText s ≡ got t n
-    → (s ≡ textOf t) × (n ≡ length s) × Lendable t
+-- [demand 2] "accepted text written again is the same text"
+pub write-of-read : (s : List ℕ) (t : Tables) (n : ℕ) → readText s ≡ got t n → Accepted s t
 unfolding readText
 write-of-read s t n e =
     let (r, end) = whole-got s (planAt textPlan s 0) t n e in
     let (ls, prints, st) = plan-is textPlan s 0 t n r in
     let (q, o) = prints-text t ls prints in
-    (stands-whole s (textOf t) n (subst (λ (x : List (List ℕ)). Stands s 0 (joined x) n) q st) end, end, o)
+    let all = subst (λ (x : List (List ℕ)). Stands s 0 (joined x) n) q st in
+    record { lendable = o; text = stands-whole s (textOf t) n all end }
 
--- a text is accepted exactly if it is the text of some tables within the sizes
-pub accepted : (s : List ℕ)
-    → ((t : Tables) × (readText s ≡ got t (length s))) ↔ ((t : Tables) × Lendable t × (s ≡ textOf t))
-accepted s = (
-  λ (t, e). let (q, n, o) = write-of-read s t (length s) e in (t, o, q),
-  λ (t, o, q). (t, subst (λ (x : List ℕ). readText x ≡ got t (length x)) (sym q) (read-of-write t o)),
-)
+accepted-read : {s : List ℕ} {t : Tables} → Accepted s t → readText s ≡ got t (length s)
+accepted-read {s} {t} a =
+    subst (λ (x : List ℕ). readText x ≡ got t (length x)) (sym (a .text)) (read-of-write t (a .lendable))
 
--- and of one only
-pub text-unique : (t u : Tables) → Lendable t → Lendable u → textOf t ≡ textOf u → t ≡ u
-text-unique t u a b e = same (sym (read-of-write t a) ∙ ap readText e ∙ read-of-write u b)
+-- a text is that of one tables only
+pub accepted-unique : {s : List ℕ} {t u : Tables} → Accepted s t → Accepted s u → t ≡ u
+accepted-unique {t} {u} a b = same (sym (accepted-read a) ∙ accepted-read b)
   where
     same : {n m : ℕ} → got t n ≡ got u m → t ≡ u
     same q = cc
@@ -152,3 +149,13 @@ place-unique s p q a b =
     let (t, j, o, x) = a .reached in
     let (u, k, r, y) = b .reached in
     omega (arith, b .furthest t j p o x, a .furthest u k q r y)
+
+pub not-of-form : (s : List ℕ) (p : ℕ) → readText s ≡ wrong p → NotOfForm s
+not-of-form s p e t a = got-not-wrong (readText s) (accepted-read a) e
+
+-- a text is that of some tables, or of none
+pub accepted-or-not : (s : List ℕ) → ((t : Tables) × Accepted s t) ⊎ ((p : ℕ) × NotOfForm s × FirstWrong s p)
+accepted-or-not s =
+    by-got (readText s)
+    (λ t n g. inl (t, write-of-read s t n g))
+    (λ p g. inr (p, not-of-form s p g, refused s p g))

@@ -1,16 +1,14 @@
 -- How long the text is: in parts, for the code that counts; and at most, so that a byte count and the place of a
 -- refusal fit 32 bits. Assumes nothing.
-use mathlib.Core.List.{List, [], _∷_, _++_}
+use mathlib.Core.List.{List, [], _++_}
 use mathlib.Core.Path.{_≡_, ap, _∙_}
-use Prim.Native.Nat.{ℕ, zero, suc, _+_, _≤_}
+use Prim.Native.Nat.{ℕ, _+_, _≤_}
 use native.Mathlib.Omega.{arith}
-use lib.ListN.{length, getD, length-append}
-use Rattle.tables.specs.Instants.{Now}
+use lib.ListN.{length, length-append}
 use Rattle.tables.specs.Rows.{nodeCount, edgeCount, refCount}
-use Rattle.lines.specs.Lines.{oneForm, oneLine, joined, linesOf, linesText}
+use Rattle.lines.specs.Lines.{oneLine, joined, linesOf, linesText}
 use Rattle.lines.specs.Reads.{wrong}
-use Rattle.lines.specs.Sizes.{mostKey, mostLine}
-use Rattle.lines.proofs.WriteLaws.{line-short, lines-short}
+use Rattle.lines.proofs.WriteLaws.{one-short, lines-short}
 use Rattle.lines.proofs.PlanLaws.{joined-append, joined-take}
 use Rattle.text.specs.Text.{
   Tables,
@@ -95,13 +93,6 @@ module _ (s : ℕ) (ns es rs : List ℕ) where
   text-length = ap length text-parts ∙ length-append headBytes (joined (rowLines ns es rs))
 
 -- ---- at most
-
-one-short : (k : List ℕ) (v : ℕ) → length k ≤ mostKey → v ≤ Now → length (oneLine k v) ≤ mostLine
-one-short k v a h = line-short k (oneForm 0 Now) (v ∷ []) a (omega arith) small
-  where
-    small : (i : ℕ) → getD (v ∷ []) i 0 ≤ Now
-    small zero = h
-    small (suc i) = omega arith
 
 text-short : (t : Tables) → Lendable t → length (textOf t) ≤ mostText
 text-short t o =

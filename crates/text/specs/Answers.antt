@@ -1,77 +1,86 @@
--- What the two calls answer, and what the lent tables and the lent output then hold.
---   roomSays             ROOM, for tables with room for n, e and f numbers where a, b and c are needed
---   readSays             TEXT, then ROOM
---   taken                the tables that are taken over from what was read: none where the answer refuses
---   told a t             the answer a with the start and the counts of t
---   Held                 tables n, e, f then begin with those of t, the rest unchanged
---   Taken                all that read text leaves: its answer and the three tables
---   writeSays, written   SIZE, then TEXTROOM, else the byte count; the bytes that the output then begins with
---   Written              all that write text leaves: the answer and the output
+-- What the two calls promise, in the document's words and by `textOf` alone. proofs/PromiseLaws.antt: for every input
+-- there is one outcome that a promise allows, and no other.
+--   Written          the answers of write text, each with its condition and what the output then holds
+--   Accepted s t     the text s is that of the tables t; NotOfForm s: it is that of none
+--   nothing          no tables; readingOf: an answer with the start and the counts of tables
+--   Fits, TooShort   the lent tables have room for those of t; or the first that has not
+--   Read             the answers of read text, each with its condition and what the tables then hold
+--   fronts           the tables that lie at the front of the lent ones, by the start and the counts of the answer
 -- Assumes nothing.
-use mathlib.Core.Bool.{cond}
 use mathlib.Core.List.{List, []}
 use mathlib.Core.Path.{_≡_}
-use Prim.Native.Nat.{ℕ}
-use lib.Dec.{ltb}
-use lib.ListN.{length}
-use lib.Seq.{sets}
+use Prim.Native.Nat.{ℕ, _*_, _≤_, _<_}
+use lib.ListN.{length, take}
+use Rattle.ground.specs.Lists.{front}
 use Rattle.answers.specs.declared.Answer.{Answer}
-use Rattle.answers.specs.declared.Answer.the-variants.{Done, Room, Text, TextRoom}
-use Rattle.answers.specs.Numbers.{refuses}
-use Rattle.answers.specs.Refusals.{when, _⨾_}
-use Rattle.tables.specs.Rows.{nodeCount, edgeCount, refCount}
-use Rattle.tables.specs.Says.{allSizesSay}
-use Rattle.lines.specs.Reads.{Got, got, wrong, gotOf}
+use Rattle.answers.specs.declared.Answer.the-variants.{Done, Size, Room, Text, TextRoom}
+use Rattle.answers.specs.Refusals.{passed}
+use Rattle.tables.specs.Rows.{nodeWidth, edgeWidth, refWidth, nodeCount, edgeCount, refCount}
+use Rattle.tables.specs.Rules.{Sizes}
+use Rattle.tables.specs.Gives.{Gives}
 use Rattle.text.specs.declared.read.Reading.{Reading}
-use Rattle.text.specs.Text.{Tables, textOf}
+use Rattle.text.specs.Text.{Tables, Lendable, lent, textOf}
+use Rattle.text.specs.Place.{FirstWrong}
 
--- [01:What the calls answer] Read text: "31, then 21 (place 0, 1, 2: first table too short)"
-unfoldable pub roomSays : ℕ → ℕ → ℕ → ℕ → ℕ → ℕ → Answer
-roomSays a b c n e f = when (ltb n a) (Room 0 0) ⨾ when (ltb e b) (Room 0 1) ⨾ when (ltb f c) (Room 0 2)
+-- [01:What the calls answer] Write text "judges table sizes only: 1, then 32. Otherwise place is the byte count, and
+-- bytes after it are unchanged."; "TEXTROOM: text output too short; place: bytes needed"; "No refusal writes to a
+-- lent table or buffer."
+module _ (t : Tables) (out : List ℕ) where
+  pub data Written : Answer → List ℕ → Type 0 where
+    out-of-size : {p : ℕ} → Gives (t .start) (t .nodes) (t .edges) (t .refs) (Size p) → Written (Size p) out
+    short : Sizes (t .nodes) (t .edges) (t .refs) → length out < length (textOf t)
+        → Written (TextRoom (length (textOf t))) out
+    wrote : Sizes (t .nodes) (t .edges) (t .refs) → length (textOf t) ≤ length out
+        → Written (Done 0 (length (textOf t))) (front (textOf t) out)
 
-unfoldable pub readSays : Got Tables → ℕ → ℕ → ℕ → Answer
-readSays (wrong p) n e f = Text p
-readSays (got t m) n e f = roomSays (length (t .nodes)) (length (t .edges)) (length (t .refs)) n e f
+-- [01:The text] the form: a text is that of tables of 32-bit numbers within the sizes.
+-- [01:What the calls answer] "Neither call applies row rules; start may be any number there."
+pub record Accepted (s : List ℕ) (t : Tables) : Type 0 where
+  pub lendable : Lendable t
+  pub text : s ≡ textOf t
 
--- [01:What the calls answer] "Otherwise the rows fill the front of each table, the rest unchanged, and the answer
--- also carries start and three counts, which are 0 on refusal."; "No refusal writes to a lent table or buffer."
+-- [01:What the calls answer] "TEXT: text is not of the form"
+abbrev pub NotOfForm : List ℕ → Type 0
+NotOfForm s = (t : Tables) → Accepted s t → ⊥
+
+-- [01:What the calls answer] "the answer also carries start and three counts, which are 0 on refusal"
 abbrev pub nothing : Tables
-nothing = record { start = 0; nodes = []; edges = []; refs = [] }
+nothing = lent 0 [] [] []
 
-unfoldable pub taken : Got Tables → ℕ → ℕ → ℕ → Tables
-taken x n e f = cond (refuses (readSays x n e f)) nothing (gotOf nothing x)
-
-abbrev pub told : Answer → Tables → Reading
-told a t =
+abbrev pub readingOf : Answer → Tables → Reading
+readingOf a t =
     record {
       answer = a;
       start = t .start;
       nodes = nodeCount (t .nodes);
       edges = edgeCount (t .edges);
-      refs = refCount
-          (t .refs);
+      refs = refCount (t .refs);
     }
 
-pub record Held (t : Tables) (n e f n′ e′ f′ : List ℕ) : Type 0 where
-  pub nodes : n′ ≡ sets n 0 (t .nodes)
-  pub edges : e′ ≡ sets e 0 (t .edges)
-  pub refs : f′ ≡ sets f 0 (t .refs)
+-- [01:What the calls answer] "21 (place 0, 1, 2: first table too short)"
+module _ (t : Tables) (n e f : List ℕ) where
+  pub record Fits : Type 0 where
+    pub nodes : length (t .nodes) ≤ length n
+    pub edges : length (t .edges) ≤ length e
+    pub refs : length (t .refs) ≤ length f
 
-pub record Taken (x : Got Tables) (r : Reading) (n e f n′ e′ f′ : List ℕ) : Type 0 where
-  pub reading : r ≡ told (readSays x (length n) (length e) (length f)) (taken x (length n) (length e) (length f))
-  pub held : Held (taken x (length n) (length e) (length f)) n e f n′ e′ f′
+  pub data TooShort : ℕ → Type 0 where
+    nodes-short : length n < length (t .nodes) → TooShort 0
+    edges-short : length (t .nodes) ≤ length n → length e < length (t .edges) → TooShort 1
+    refs-short : length (t .nodes) ≤ length n → length (t .edges) ≤ length e → length f < length (t .refs)
+        → TooShort 2
 
--- [01:What the calls answer] Write text "judges table sizes only: 1, then 32. Otherwise place is the byte count, and
--- bytes after it are unchanged."
-unfoldable pub writeSays : Tables → ℕ → Answer
-writeSays t room =
-    allSizesSay (t .nodes) (t .edges) (t .refs)
-    ⨾ when (ltb room (length (textOf t))) (TextRoom (length (textOf t)))
-    ⨾ Done 0 (length (textOf t))
+-- [01:What the calls answer] "Read text: 31, then 21 (place 0, 1, 2: first table too short). Otherwise the rows fill
+-- the front of each table, the rest unchanged, and the answer also carries start and three counts, which are 0 on
+-- refusal."; "No refusal writes to a lent table or buffer." A text of the form has a `FirstWrong` too, its length, so
+-- TEXT asks for both.
+pub data Read (s n e f : List ℕ) : Reading → List ℕ → List ℕ → List ℕ → Type 0 where
+  wrong-text : {p : ℕ} → NotOfForm s → FirstWrong s p → Read s n e f (readingOf (Text p) nothing) n e f
+  no-room : {t : Tables} {k : ℕ} → Accepted s t → TooShort t n e f k → Read s n e f (readingOf (Room 0 k) nothing) n e f
+  took : {t : Tables} → Accepted s t → Fits t n e f
+      → Read s n e f (readingOf passed t) (front (t .nodes) n) (front (t .edges) e) (front (t .refs) f)
 
-unfoldable pub written : Tables → ℕ → List ℕ
-written t room = cond (refuses (writeSays t room)) [] (textOf t)
-
-pub record Written (t : Tables) (a : Answer) (out out′ : List ℕ) : Type 0 where
-  pub answer : a ≡ writeSays t (length out)
-  pub held : out′ ≡ sets out 0 (written t (length out))
+-- where a caller finds what was read
+abbrev pub fronts : Reading → List ℕ → List ℕ → List ℕ → Tables
+fronts r n e f =
+    lent (r .start) (take (r .nodes * nodeWidth) n) (take (r .edges * edgeWidth) e) (take (r .refs * refWidth) f)

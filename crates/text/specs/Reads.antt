@@ -1,17 +1,26 @@
--- What a text holds. proofs/RoundTrip.antt says it by `textOf` alone: which texts are read, as what, and where the
--- others are refused.
+-- What a text holds, computed: the inner functions of read text are stated by it. The promise of the call
+-- (Answers.antt) is not; proofs/RoundTrip.antt ties the two.
+--   editionForm, startForm, nodesForm, edgesForm, refsForm   the forms of the first five lines
+--   only                 the number of a line of one
 --   headPlan, rowsPlan   the first five lines (the three with counts: countsPlan) and the rows that they announce, as
 --                        plans of lines; textPlan: both
 --   whole s r            what was read, if it is all of s
 --   readText s           the tables that the text s holds, or the place of the first line that is not what must stand
 --                        there
 --   headOf               what the reader of the first five lines answers
+--   roomSays             ROOM, for tables with room for n, e and f numbers where a, b and c are needed
+--   Held                 the tables n, e, f after those of t were stored at their fronts
 -- Assumes nothing.
 use mathlib.Core.Bool.{cond}
 use mathlib.Core.List.{List}
+use mathlib.Core.Path.{_≡_}
 use Prim.Native.Nat.{ℕ}
-use lib.Dec.{eqb}
+use lib.Dec.{eqb, ltb}
 use lib.ListN.{length, getD}
+use lib.Seq.{sets}
+use Rattle.answers.specs.declared.Answer.{Answer}
+use Rattle.answers.specs.declared.Answer.the-variants.{Room}
+use Rattle.answers.specs.Refusals.{when, _⨾_}
 use Rattle.tables.specs.Instants.{Now}
 use Rattle.tables.specs.Rules.{leastNodes, mostNodes, mostEdges, mostRefs}
 use Rattle.lines.specs.declared.form.Form.{Form}
@@ -90,3 +99,12 @@ readText s = whole s (planAt textPlan s 0)
 unfoldable pub headOf : Got Counts → Head
 headOf (got c n) = Counted c n
 headOf (wrong p) = Misplaced p
+
+-- [01:What the calls answer] "21 (place 0, 1, 2: first table too short)"
+unfoldable pub roomSays : ℕ → ℕ → ℕ → ℕ → ℕ → ℕ → Answer
+roomSays a b c n e f = when (ltb n a) (Room 0 0) ⨾ when (ltb e b) (Room 0 1) ⨾ when (ltb f c) (Room 0 2)
+
+pub record Held (t : Tables) (n e f n′ e′ f′ : List ℕ) : Type 0 where
+  pub nodes : n′ ≡ sets n 0 (t .nodes)
+  pub edges : e′ ≡ sets e 0 (t .edges)
+  pub refs : f′ ≡ sets f 0 (t .refs)

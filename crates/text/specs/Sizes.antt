@@ -1,6 +1,6 @@
 -- How long the text of tables within the sizes is, so that counts and places of it are 32-bit numbers.
---   Fit ns es rs                   the tables have at most so many rows
---   mostHead, mostRows, mostText   at most so many bytes in the first five lines, in the rows, in the text
+--   Fit ns es rs   the tables have at most so many rows
+--   mostHead, mostRowBytes, mostText   at most so many bytes in the first five lines, in the rows, in the text
 -- Assumes nothing.
 use mathlib.Core.List.{List}
 use Prim.Native.Nat.{ℕ, _+_, _*_, _≤_}
@@ -16,8 +16,8 @@ pub record Fit (ns es rs : List ℕ) : Type 0 where
 abbrev pub mostHead : ℕ
 mostHead = 5 * mostLine
 
-abbrev pub mostRows : ℕ
-mostRows = (mostNodes + mostEdges + mostRefs) * mostLine
+abbrev pub mostRowBytes : ℕ
+mostRowBytes = (mostNodes + mostEdges + mostRefs) * mostLine
 
 abbrev pub mostText : ℕ
-mostText = mostHead + mostRows
+mostText = mostHead + mostRowBytes

@@ -1,18 +1,22 @@
 -- The text of tables, edition 1.
 --   Tables             a start and three tables of numbers
 --   lent               the tables that are lent to a call
+--   Small vs           all of the numbers are 32-bit numbers
 --   Lendable t         the tables are within the sizes, and their numbers are 32-bit numbers
---   editionKey ..      the keys; nodeForm, edgeForm, refForm: the forms of the rows
+--   edition            the number of the edition
+--   editionKey, startKey, nodesKey, edgesKey, refsKey   the keys of the first five lines
+--   nodeKey, edgeKey, refKey                            the keys of the rows
+--   nodeForm, edgeForm, refForm                         the forms of the rows
 --   headLines          the first five lines; rowLines: the lines of the rows
 --   textLines, textOf  the lines of the text, each with its LF; the text
 -- Assumes nothing.
 use mathlib.Core.Bool.{true, false}
 use mathlib.Core.List.{List, [], _∷_, _++_}
 use Prim.Native.Nat.{ℕ, _≤_}
-use lib.ListN.{length, getD}
+use lib.ListN.{getD}
 use Rattle.tables.specs.Instants.{Now}
 use Rattle.tables.specs.Rows.{nodeWidth, edgeWidth, refWidth, nodeCount, edgeCount, refCount}
-use Rattle.tables.specs.Rules.{SizeRule, leastNodes, mostNodes, mostEdges, mostRefs}
+use Rattle.tables.specs.Rules.{NodesSize, EdgesSize, RefsSize}
 use Rattle.lines.specs.declared.form.Form.{Form}
 use Rattle.lines.specs.Lines.{rowForm, oneLine, linesOf, joined}
 
@@ -34,9 +38,9 @@ pub record Lendable (t : Tables) : Type 0 where
   pub nodes : Small (t .nodes)
   pub edges : Small (t .edges)
   pub refs : Small (t .refs)
-  pub nodes-size : SizeRule nodeWidth leastNodes mostNodes (length (t .nodes))
-  pub edges-size : SizeRule edgeWidth 0 mostEdges (length (t .edges))
-  pub refs-size : SizeRule refWidth 0 mostRefs (length (t .refs))
+  pub nodes-size : NodesSize (t .nodes)
+  pub edges-size : EdgesSize (t .edges)
+  pub refs-size : RefsSize (t .refs)
 
 -- [01:The text] "Lines `key=value` .. in this order: `edition=1`, `start=`, `nodes=`, `edges=`, `refs=`, then all
 -- `node=` lines, `edge=` lines, `ref=` lines, as many as counted."

@@ -6,8 +6,8 @@ ghost use lib.ListN.{length};
 ghost use Rattle.tables.specs.Rows.{nodeWidth, edgeWidth, refWidth};
 ghost use Rattle.lines.specs.Reads.{got, endOf, isGot, gotOf};
 ghost use Rattle.lines.specs.Plans.{planAt};
-ghost use Rattle.text.specs.Reads.{countsPlan, headPlan, rowsPlan, whole, readText, headOf};
-ghost use Rattle.text.specs.Answers.{roomSays, nothing, told, Held, Taken};
+ghost use Rattle.text.specs.Reads.{countsPlan, headPlan, rowsPlan, whole, headOf, roomSays, Held};
+ghost use Rattle.text.specs.Answers.{nothing, readingOf, Read};
 use super::forms::EDITION;
 use super::forms::edge_form;
 use super::forms::node_form;
@@ -51,7 +51,7 @@ enum Head {
 }
 
 fn refusal(answer: Answer) -> Reading
-    ensures { λ r. ⌜ r ≡ told answer nothing ⌝ }
+    ensures { λ r. ⌜ r ≡ readingOf answer nothing ⌝ }
 {
     Reading {
         answer,
@@ -176,8 +176,8 @@ fn read_rows(
     refs: &mut [u32],
 ) -> Reading
     requires { ⌜ planAt headPlan (now text) 0 ≡ got c at ⌝ }
-    ensures { λ r. ⌜ Taken (readText (now (text .entry))) r (now (nodes .entry)) (now (edges .entry))
-        (now (refs .entry)) (now (nodes .exit)) (now (edges .exit)) (now (refs .exit)) ⌝ }
+    ensures { λ r. ⌜ Read (now (text .entry)) (now (nodes .entry)) (now (edges .entry)) (now (refs .entry)) r
+        (now (nodes .exit)) (now (edges .exit)) (now (refs .exit)) ⌝ }
 {
     let x = scan_rows(text, at, c);
     match x {
@@ -200,8 +200,8 @@ fn read_rows(
 }
 
 pub fn read_text(text: &[u8], nodes: &mut [u32], edges: &mut [u32], refs: &mut [u32]) -> Reading
-    ensures { λ r. ⌜ Taken (readText (now (text .entry))) r (now (nodes .entry)) (now (edges .entry))
-        (now (refs .entry)) (now (nodes .exit)) (now (edges .exit)) (now (refs .exit)) ⌝ }
+    ensures { λ r. ⌜ Read (now (text .entry)) (now (nodes .entry)) (now (edges .entry)) (now (refs .entry)) r
+        (now (nodes .exit)) (now (edges .exit)) (now (refs .exit)) ⌝ }
 {
     let h = read_head(text);
     match h {

@@ -5,7 +5,7 @@ ghost use Rattle.ground.specs.Stores.{Put};
 ghost use Rattle.lines.specs.Lines.{joined};
 ghost use Rattle.lines.specs.Sizes.{Long};
 ghost use Rattle.text.specs.Text.{headLines, rowLines, textOf, lent};
-ghost use Rattle.text.specs.Sizes.{Fit, mostHead, mostRows, mostText};
+ghost use Rattle.text.specs.Sizes.{Fit, mostHead, mostRowBytes, mostText};
 ghost use Rattle.text.specs.Answers.{Written};
 use super::forms::EDITION;
 use super::forms::edge_form;
@@ -36,7 +36,7 @@ fn head_len(start: u32, nodes: u32, edges: u32, refs: u32) -> usize
 // How many bytes the rows have.
 fn rows_len(nodes: &[u32], edges: &[u32], refs: &[u32]) -> usize
     requires { ⌜ Fit (now nodes) (now edges) (now refs) ⌝ }
-    ensures { λ r. ⌜ Long (joined (rowLines (now (nodes .entry)) (now (edges .entry)) (now (refs .entry)))) mostRows
+    ensures { λ r. ⌜ Long (joined (rowLines (now (nodes .entry)) (now (edges .entry)) (now (refs .entry)))) mostRowBytes
         r ⌝ }
 {
     let a = lines_len(b"node=", node_form(), nodes, node_count(nodes));
@@ -95,8 +95,8 @@ fn write_all(start: u32, nodes: &[u32], edges: &[u32], refs: &[u32], out: &mut [
 }
 
 pub fn write_text(start: u32, nodes: &[u32], edges: &[u32], refs: &[u32], out: &mut [u8]) -> Answer
-    ensures { λ r. ⌜ Written (lent start (now (nodes .entry)) (now (edges .entry)) (now (refs .entry))) r
-        (now (out .entry)) (now (out .exit)) ⌝ }
+    ensures { λ r. ⌜ Written (lent start (now (nodes .entry)) (now (edges .entry)) (now (refs .entry)))
+        (now (out .entry)) r (now (out .exit)) ⌝ }
 {
     let sizes = judge_all_sizes(nodes, edges, refs);
     if sizes.refuses() {

@@ -4,7 +4,8 @@ use mathlib.Core.Path.{sym}
 use Rattle.lines.specs.Reads.{gotOf}
 use Rattle.lines.proofs.GotLaws.{is-got}
 use Rattle.text.specs.Answers.{nothing}
-use Rattle.text.proofs.ReadLaws.{rows, RowsRight, rows-right}
+use Rattle.text.proofs.ScanLaws.{rows}
+use Rattle.text.proofs.ReadLaws.{RowsRight, rows-right}
 use borrow.Author.Needs.{needs}
 use Rattle.text.proofs.read.fill_rows.Statement.{statement}
 use Rattle.text.proofs.read.fill_rows.Tie as tie

@@ -1,5 +1,5 @@
 use borrow.Author.Tests.{lt-ltb, le-ltb}
-use Rattle.text.specs.Answers.{roomSays}
+use Rattle.text.specs.Reads.{roomSays}
 use borrow.Author.Needs.{needs}
 use Rattle.text.proofs.read.judge_room.Statement.{statement}
 use Rattle.text.proofs.read.judge_room.Tie as tie

@@ -6,7 +6,7 @@ use Rattle.lines.specs.Plans.{Plan}
 use Rattle.lines.proofs.AlongLaws.{Along, along-none, along-one, along-stop, wrong-one}
 use Rattle.text.specs.declared.read.Counts.{Counts}
 use Rattle.text.specs.Reads.{countsPlan}
-use Rattle.text.proofs.ReadLaws.{edgesPlan, refsPlan, lastPlan, head-wrong, head-counted}
+use Rattle.text.proofs.ScanLaws.{edgesPlan, refsPlan, lastPlan, head-wrong, head-counted}
 use Rattle.text.proofs.read.read_counts.Statement.{statement}
 use Rattle.text.proofs.read.read_counts.Tie as tie
 

@@ -6,7 +6,7 @@ use borrow.Author.Needs.{needs}
 use denote.Ref.{now}
 use Rattle.lines.proofs.AlongLaws.{Along, along-none, along-one, wrong-one}
 use Rattle.text.specs.Reads.{countsPlan, headPlan, headOf}
-use Rattle.text.proofs.ReadLaws.{startPlan, head-wrong}
+use Rattle.text.proofs.ScanLaws.{startPlan, head-wrong}
 use Rattle.text.proofs.read.read_head.Statement.{statement}
 use Rattle.text.proofs.read.read_head.Tie as tie
 

@@ -4,19 +4,9 @@ use mathlib.Core.Path.{sym, ap, _∙_}
 use Rattle.lines.proofs.GotLaws.{got-is, got-of}
 use Rattle.answers.specs.Numbers.{refuses}
 use Rattle.text.specs.Answers.{nothing}
+use Rattle.text.proofs.RoundTrip.{write-of-read}
 use Rattle.text.proofs.SizeLaws.{place-short}
-use Rattle.text.proofs.ReadLaws.{
-  head-within,
-  text-wrong,
-  TextRight,
-  text-right,
-  room-asked,
-  room-there,
-  counts-told,
-  taken-text,
-  taken-room,
-  taken-all,
-}
+use Rattle.text.proofs.ReadLaws.{head-within, text-wrong, TextRight, text-right, room-asked, room-counted, room-there, counts-told, read-wrong, read-short, read-all}
 use borrow.Author.Needs.{needs}
 use Rattle.text.proofs.read.read_rows.Statement.{statement}
 use Rattle.text.proofs.read.read_rows.Tie as tie
@@ -65,7 +55,7 @@ returns c = let s = c .before .before .before .before .before .before .before .b
     let says = c .before .before .before .judge-room .ensures
     ∙ room-asked (now (a .text)) (a .c) (a .at) (x .tables) (x .right) _ _ _ in
     let w = sym (c .before .before .refuses .ensures) ∙ c .before .if1 .taken in
-    taken-room _ (now (a .nodes)) (now (a .edges)) (now (a .refs)) (x .tables) _ (x .read) _ says _ w
+    read-short (now (a .text)) (now (a .nodes)) (now (a .edges)) (now (a .refs)) (write-of-read _ _ _ (x .read)) says w
     (c .refusal2 .ensures)
 
 fill-rows-requires : tie.Need-fill-rows-requires
@@ -74,16 +64,21 @@ fill-rows-requires c κs =
     c .before .before .before .before .before .before .before .before .before .before .before .before .before in
     let a = s .args in
     let x = right (c .before .before .before .before .before .before) in
-    let w = sym (ap refuses (c .before .before .before .before .before .judge-room .ensures))
-    ∙ sym (c .before .before .before .before .refuses .ensures) ∙ c .before .before .before .if1 .left in
-    ((head-within (now (a .text)) (a .c) (a .at) (s .pre), got-is _ (x .got-rows)), room-there _ _ _ _ _ _ w)
+    let says = c .before .before .before .before .before .judge-room .ensures
+    ∙ room-asked (now (a .text)) (a .c) (a .at) (x .tables) (x .right) _ _ _ in
+    let w = sym (ap refuses says) ∙ sym (c .before .before .before .before .refuses .ensures)
+    ∙ c .before .before .before .if1 .left in (
+      (head-within (now (a .text)) (a .c) (a .at) (s .pre), got-is _ (x .got-rows)),
+      room-counted (now (a .text)) (a .c) (a .at) (x .tables) (x .right)
+          (room-there (x .tables) (now (a .nodes)) (now (a .edges)) (now (a .refs)) w),
+    )
 
 returns-2 : tie.Need-returns-2
 returns-2 c = let s = c .before .before .before .before .before .before .before .before .before in
     let a = s .args in
     let w = text-wrong (now (a .text)) (a .c) (a .at) (s .pre) _
     (sym (c .before .before .before .before .scan-rows .ensures) ∙ c .before .before .x .given .1) in
-    taken-text _ (now (a .nodes)) (now (a .edges)) (now (a .refs)) _ _ w (c .refusal .ensures)
+    read-wrong (now (a .text)) (now (a .nodes)) (now (a .edges)) (now (a .refs)) _ w (c .refusal .ensures)
 
 same-length : tie.Need-same-length
 same-length c = search needs
@@ -110,7 +105,7 @@ returns-3 c =
     ∙ c .before .before .before .before .before .before .before .before .before .before .if1 .left in
     let held = rw (got-of nothing _ (x .got-rows)) at
     (c .before .before .before .before .before .before .fill-rows .ensures) in
-    taken-all _ (now (a .nodes)) (now (a .edges)) (now (a .refs)) (x .tables) _ (x .read) _ says _ _ _ _ w
+    read-all (now (a .text)) (now (a .nodes)) (now (a .edges)) (now (a .refs)) (write-of-read _ _ _ (x .read)) says w
     (counts-told (now (a .text)) (a .c) (a .at) (x .tables) (x .right) _) held
 
 pub read-rows-spec : {M : Type 1} → statement M

@@ -2,7 +2,8 @@ use native.Mathlib.Omega.{arith}
 use denote.Ref.{now}
 use mathlib.Core.Path.{sym, _∙_}
 use Rattle.text.proofs.SizeLaws.{place-short}
-use Rattle.text.proofs.ReadLaws.{read-misplaced, misplaced-head, counted-head, taken-text}
+use Rattle.text.proofs.ScanLaws.{read-misplaced, misplaced-head, counted-head}
+use Rattle.text.proofs.ReadLaws.{read-wrong}
 use borrow.Author.Needs.{needs}
 use Rattle.text.proofs.read.read_text.Statement.{statement}
 use Rattle.text.proofs.read.read_text.Tie as tie
@@ -35,7 +36,7 @@ returns c = let a = c .before .before .before .before .before .before .before .b
     let w = read-misplaced (now (a .text)) _
     (misplaced-head _ _ (sym (c .before .before .before .before .read-head .ensures)
     ∙ c .before .before .h .given .1)) in
-    taken-text _ (now (a .nodes)) (now (a .edges)) (now (a .refs)) _ _ w (c .refusal .ensures)
+    read-wrong (now (a .text)) (now (a .nodes)) (now (a .edges)) (now (a .refs)) _ w (c .refusal .ensures)
 
 same-length : tie.Need-same-length
 same-length c = search needs
