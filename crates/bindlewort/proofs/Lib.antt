@@ -1,2 +1,4 @@
+pub mod GivenLaws
+pub mod CodeLaws
 pub mod Demands
 pub mod Starred

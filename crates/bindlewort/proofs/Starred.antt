@@ -1,11 +1,12 @@
--- The starred cases, proved together: what the definitions compute for each is what the document says, and the promise of
--- the call allows it. Assumes nothing.
+-- The starred cases, proved together: what the definitions compute for each is what the document says, and the promise
+-- of the call allows it. Assumes nothing.
 use mathlib.Core.Path.{_≡_, refl, sym, ap, _∙_, subst}
 use mathlib.Core.List.{List, [], _∷_, map}
 use Prim.Native.Nat.{ℕ}
 use lib.ListN.{length}
 use Rattle.ground.specs.Least.{any, least}
 use Rattle.ground.specs.Sums.{sum}
+use Rattle.ground.specs.Lists.{All}
 use Rattle.answers.specs.declared.Answer.{Answer}
 use Rattle.tables.specs.Rows.{nodeAt, edgeAt, refAt, setEnd}
 use Rattle.tables.specs.Rules.{sizeRule, badNode, badEdge, badRef}
@@ -21,7 +22,8 @@ use Rattle.snapshot.specs.Answers.{Answers}
 use Rattle.snapshot.proofs.AnswersLaws.{answers-says}
 use Rattle.repair.specs.Ends.{tied, nextStart, lastEnd, newEnd, withEnds, repaired}
 use Rattle.repair.specs.Says.{settleSays, repairSays, repairLeaves}
-use Rattle.bindlewort.specs.Cases.{Call, check, snapshot, repair, Case, output, promised, said, left, Every, cases}
+use Rattle.repair.proofs.AnswersLaws.{repaired-of}
+use Rattle.bindlewort.specs.Cases.{Call, check, snapshot, repair, Case, output, Promised, said, left, cases}
 
 -- what the definitions compute for a case, and what the document says of it
 abbrev computed : Case → Answer × List ℕ
@@ -30,7 +32,7 @@ computed c = (said (c .call) c, left (c .call) c)
 abbrev stated : Case → Answer × List ℕ
 stated c = (c .answer, c .left)
 
-allowed : (k : Call) (c : Case) → said k c ≡ c .answer → left k c ≡ c .left → promised k c
+allowed : (k : Call) (c : Case) → said k c ≡ c .answer → left k c ≡ c .left → Promised k c
 allowed check c e l =
     subst (Checked 0 (c .nodes) (c .edges) (c .refs)) e (checked-exists 0 (c .nodes) (c .edges) (c .refs))
 allowed (snapshot t) c e l =
@@ -40,9 +42,9 @@ allowed (snapshot t) c e l =
           (answers-says 0 (c .nodes) (c .edges) (c .refs) t (length output));
       out = sym l ∙ ap (λ (a : Answer). written a (rowsOf (held 0 (c .nodes) (c .edges) (c .refs)) t) output) e;
     }
-allowed repair c e l = record { answer = sym e; table = sym l }
+allowed repair c e l = repaired-of (record { answer = sym e; table = sym l })
 
-every : (cs : List Case) → map computed cs ≡ map stated cs → Every (λ c. promised (c .call) c) cs
+every : (cs : List Case) → map computed cs ≡ map stated cs → All (λ c. Promised (c .call) c) cs
 every [] e = tt
 every (c ∷ cs) e =
     let here : computed c ≡ stated c = cc in
@@ -51,7 +53,7 @@ every (c ∷ cs) e =
 
 -- [01:Strength of the promises] "The starred cases are proved together as one table under a single theorem about the
 -- definitions"
-pub starred : Every (λ c. promised (c .call) c) cases
+pub starred : All (λ c. Promised (c .call) c) cases
 unfolding any least sum nodeAt edgeAt refAt setEnd sizeRule badNode badEdge badRef
     sizesSay allSizesSay rowsSay refsSay containmentSays historySays afterGap faultsSay shownSay verdict checkSays
     each subtree flat climbs tooDeep below isChild valueAt roomSays ruledSays snapshotSays written

@@ -1,12 +1,14 @@
 -- The starred cases of document 01, 'Both sides of the line', as one table.
 --   Call, Case   a call on tables of start 0, its answer, and what it leaves: an output of 20 numbers 7, or the table
 --   Promised     the promise of the call allows that answer and that rest
+--   output       what a snapshot is given to write to
 --   said, left   what the definitions compute
 --   cases        the table
 -- Assumes nothing.
-use mathlib.Core.List.{List, [], _∷_, _++_}
+use mathlib.Core.List.{List, [], _∷_}
 use Prim.Native.Nat.{ℕ}
-use lib.ListN.{length, drop, replicate}
+use lib.ListN.{length, replicate}
+use Rattle.ground.specs.Lists.{front}
 use Rattle.answers.specs.declared.Fault.the-variants.{Overlap, Gap, Outside, Cycle, Dangling}
 use Rattle.answers.specs.declared.Answer.{Answer}
 use Rattle.answers.specs.declared.Answer.the-variants.{Done, Faulty, Tie}
@@ -16,7 +18,8 @@ use Rattle.history.specs.History.{held}
 use Rattle.verdict.specs.Checked.{Checked, checkSays}
 use Rattle.snapshot.specs.Snapshot.{rowsOf, snapshotSays, written}
 use Rattle.snapshot.specs.Answers.{Snapshot}
-use Rattle.repair.specs.Says.{repairSays, repairLeaves, Repaired}
+use Rattle.repair.specs.Says.{repairSays, repairLeaves}
+use Rattle.repair.specs.Answers.{Repaired}
 
 pub data Call : Type 0 where
   check : Call
@@ -34,10 +37,10 @@ pub record Case : Type 0 where
 abbrev pub output : List ℕ
 output = replicate 20 7
 
-abbrev pub promised : Call → Case → Type 0
-promised check c = Checked 0 (c .nodes) (c .edges) (c .refs) (c .answer)
-promised (snapshot t) c = Snapshot 0 (c .nodes) (c .edges) (c .refs) t output (c .answer) (c .left)
-promised repair c = Repaired 0 (c .nodes) (c .edges) (c .answer) (c .left)
+abbrev pub Promised : Call → Case → Type 0
+Promised check c = Checked 0 (c .nodes) (c .edges) (c .refs) (c .answer)
+Promised (snapshot t) c = Snapshot 0 (c .nodes) (c .edges) (c .refs) t output (c .answer) (c .left)
+Promised repair c = Repaired 0 (c .nodes) (c .edges) (c .answer) (c .left)
 
 abbrev pub said : Call → Case → Answer
 said check c = checkSays 0 (c .nodes) (c .edges) (c .refs)
@@ -48,10 +51,6 @@ abbrev pub left : Call → Case → List ℕ
 left check c = []
 left (snapshot t) c = written (said (snapshot t) c) (rowsOf (held 0 (c .nodes) (c .edges) (c .refs)) t) output
 left repair c = repairLeaves 0 (c .nodes) (c .edges)
-
-abbrev pub Every : (Case → Type 0) → List Case → Type 0
-Every P [] = Unit {0}
-Every P (c ∷ cs) = P c × Every P cs
 
 -- nodes: the root and five of H; the root and one or two elements; the root alone
 abbrev h : List ℕ
@@ -84,7 +83,7 @@ checked ns es rs a = record { call = check; nodes = ns; edges = es; refs = rs; a
 
 abbrev shown : List ℕ → List ℕ → List ℕ → ℕ → Answer → List ℕ → Case
 shown ns es rs t a out =
-    record { call = snapshot t; nodes = ns; edges = es; refs = rs; answer = a; left = out ++ drop (length out) output }
+    record { call = snapshot t; nodes = ns; edges = es; refs = rs; answer = a; left = front out output }
 
 abbrev mended : List ℕ → List ℕ → Answer → List ℕ → Case
 mended ns es a out = record { call = repair; nodes = ns; edges = es; refs = []; answer = a; left = out }

@@ -5,10 +5,9 @@ ghost use mathlib.Core.Path.{_≡_};
 ghost use Rattle.answers.specs.Numbers.{numbers};
 ghost use Rattle.verdict.specs.Checked.{Checked};
 ghost use Rattle.snapshot.specs.Answers.{Snapshot};
-ghost use Rattle.repair.specs.Says.{Repaired};
+ghost use Rattle.repair.specs.Answers.{Repaired};
 ghost use Rattle.text.specs.Text.{lent};
-ghost use Rattle.text.specs.Reads.{readText};
-ghost use Rattle.text.specs.Answers.{Taken, Written};
+ghost use Rattle.text.specs.Answers.{Written, Read};
 ghost use Rattle.bindlewort.specs.Given.{told, Given, GivenReading};
 use answers::Answer;
 
@@ -81,8 +80,8 @@ pub extern "C" fn bw_write_text(
     refs: &[u32],
     out: &mut [u8],
 ) -> Answered
-    ensures { λ r. ⌜ Given (λ a. Written (lent start (now (nodes .entry)) (now (edges .entry)) (now (refs .entry))) a
-        (now (out .entry)) (now (out .exit))) r ⌝ }
+    ensures { λ r. ⌜ Given (λ a. Written (lent start (now (nodes .entry)) (now (edges .entry)) (now (refs .entry)))
+        (now (out .entry)) a (now (out .exit))) r ⌝ }
 {
     tell(text::write::write_text(start, nodes, edges, refs, out))
 }
@@ -95,8 +94,8 @@ pub extern "C" fn bw_read_text(
     edges: &mut [u32],
     refs: &mut [u32],
 ) -> Reading
-    ensures { λ r. ⌜ GivenReading (λ x. Taken (readText (now (text .entry))) x (now (nodes .entry))
-        (now (edges .entry)) (now (refs .entry)) (now (nodes .exit)) (now (edges .exit)) (now (refs .exit))) r ⌝ }
+    ensures { λ r. ⌜ GivenReading (λ x. Read (now (text .entry)) (now (nodes .entry)) (now (edges .entry))
+        (now (refs .entry)) x (now (nodes .exit)) (now (edges .exit)) (now (refs .exit))) r ⌝ }
 {
     let x = text::read::read_text(text, nodes, edges, refs);
     let a = x.answer;
