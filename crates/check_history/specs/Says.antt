@@ -1,18 +1,60 @@
--- What the program prints of a text.
---   Says   the answer of read text if that refused, else that of check on the tables that were read
+-- What the program prints.
+--   Says     of a text: the answer of read text if that refused, else that of check on the tables that were read
+--   mostInput, mostOutput   at most so many bytes are read, and printed
+--   Prints   of an input, of which nothing is read past mostInput bytes
+--   codeKey, instantKey, placeKey   the keys of the three lines
+--   printed  the three lines of an answer; Reported: they are put at the front of an output
 -- Assumes nothing.
-use mathlib.Core.Path.{_≡_}
-use mathlib.Core.List.{List}
-use Prim.Native.Nat.{ℕ}
+use mathlib.Core.List.{List, [], _∷_}
+use Prim.Native.Nat.{ℕ, _*_, _≤_, _<_}
+use lib.ListN.{length}
+use Rattle.ground.specs.Stores.{Put}
 use Rattle.answers.specs.declared.Answer.{Answer}
 use Rattle.answers.specs.declared.Answer.the-variants.{Text}
-use Rattle.lines.specs.Reads.{got, wrong}
+use Rattle.answers.specs.Numbers.{numbers}
+use Rattle.lines.specs.Lines.{oneLine, joined}
+use Rattle.lines.specs.Sizes.{mostLine}
 use Rattle.text.specs.Text.{Tables}
-use Rattle.text.specs.Reads.{readText}
+use Rattle.text.specs.Place.{FirstWrong}
+use Rattle.text.specs.Answers.{Accepted, NotOfForm}
 use Rattle.verdict.specs.Checked.{Checked}
 
 -- [01:The text] "the code, instant and place of read if that refused, else of check"
 pub data Says (s : List ℕ) : Answer → Type 0 where
-  unread : {p : ℕ} → readText s ≡ wrong p → Says s (Text p)
-  read : {t : Tables} {n : ℕ} {a : Answer} → readText s ≡ got t n
-      → Checked (t .start) (t .nodes) (t .edges) (t .refs) a → Says s a
+  unread : {p : ℕ} → NotOfForm s → FirstWrong s p → Says s (Text p)
+  read : {t : Tables} {a : Answer} → Accepted s t → Checked (t .start) (t .nodes) (t .edges) (t .refs) a → Says s a
+
+-- [01:The text] "`check` reads such text from standard input, at most 32,768 bytes (longer: 31, place 32768)"
+abbrev pub mostInput : ℕ
+mostInput = 32768
+
+pub data Prints (s : List ℕ) : Answer → Type 0 where
+  short : {a : Answer} → length s ≤ mostInput → Says s a → Prints s a
+  long : mostInput < length s → Prints s (Text mostInput)
+
+-- [01:The text] "and prints three lines: the code, instant and place"
+abbrev pub codeKey : List ℕ
+codeKey = 99 ∷ 111 ∷ 100 ∷ 101 ∷ 61 ∷ []
+
+abbrev pub instantKey : List ℕ
+instantKey = 105 ∷ 110 ∷ 115 ∷ 116 ∷ 97 ∷ 110 ∷ 116 ∷ 61 ∷ []
+
+abbrev pub placeKey : List ℕ
+placeKey = 112 ∷ 108 ∷ 97 ∷ 99 ∷ 101 ∷ 61 ∷ []
+
+abbrev pub printed : Answer → List ℕ
+printed a =
+    joined
+    (oneLine codeKey (numbers a .code)
+    ∷ oneLine instantKey (numbers a .instant)
+    ∷ oneLine placeKey (numbers a .place)
+    ∷ [])
+
+abbrev pub mostOutput : ℕ
+mostOutput = 3 * mostLine
+
+pub record Reported (s out out′ : List ℕ) (n : ℕ) : Type 0 where
+  pub answer : Answer
+  pub prints : Prints s answer
+  pub held : Put out 0 (printed answer) out′ n
+  pub fits : n ≤ mostOutput

@@ -1,9 +1,12 @@
 use mathlib.Core.Path.{_≡_, refl, sym, _∙_}
 use mathlib.Core.Bool.{false}
+use Prim.Native.Nat.{_*_, _≤_}
+use lib.ListN.{length}
 use lib.Seq.{length-take-le}
 use Rattle.answers.specs.Numbers.{refuses}
+use Rattle.tables.specs.Rows.{nodeWidth, edgeWidth, refWidth}
 use borrow.Author.Needs.{needs}
-use Rattle.check_history.proofs.SaysLaws.{Fits, unread-says, read-fits, read-says}
+use Rattle.check_history.proofs.SaysLaws.{unread-says, read-fits, read-says}
 use Rattle.check_history.proofs.answer.Statement.{statement}
 use Rattle.check_history.proofs.answer.Tie as tie
 
@@ -11,8 +14,11 @@ use Rattle.check_history.proofs.answer.Tie as tie
 passed : (c : tie.Else1) → refuses (c .before .before .before .before .before .read-text .result .answer) ≡ false
 passed c = sym (c .before .refuses .ensures) ∙ c .if1 .left
 
+-- so each of its tables is long enough for its rows
 fits : (c : tie.Else1) → let call = c .before .before .before .before .before .read-text in
-    Fits (call .result) (call .last .1 .0) (call .last .1 .1 .0) (call .last .1 .1 .1 .0)
+    let r = call .result in
+    (r .nodes * nodeWidth ≤ length (call .last .1 .0)) × (r .edges * edgeWidth ≤ length (call .last .1 .1 .0))
+    × (r .refs * refWidth ≤ length (call .last .1 .1 .1 .0))
 fits c = read-fits (c .before .before .before .before .before .read-text .ensures) (passed c)
 
 slice-aggregate-read-text : tie.Need-slice-aggregate-read-text
