@@ -9,14 +9,23 @@
  *   refs        BW_REF_WIDTH numbers a row: attribute, target, from, to. The reference rows.
  *   start       the instant at which the history starts.
  *
- * Instants are whole seconds from 2000-01-01 00:00:00 on. A row is in force from `from` to `to`, both included; one whose
- * `to` is BW_NOW is current.
+ * Instants are whole seconds from 2000-01-01 00:00:00 on. A row is in force from `from` to `to`, both included; one
+ * whose `to` is BW_NOW is current.
  *
- * Every call takes tables of every kind and ends with one answer: a code, an instant and a place. Parts of an answer that
- * its code does not name are 0. A call that refuses (any code but BW_DONE) leaves everything lent to it as it was, and no
- * call keeps a pointer. A pointer is that of an array of at least the given length; where the length is 0, it may be NULL.
- * What a call may write to overlaps nothing else that is lent to it. Calls share nothing, so that any number of threads
- * may call at once.
+ * Every call takes tables of every kind and ends with one answer: a code, an instant and a place. Parts of an answer
+ * that its code does not name are 0. A call that refuses (any code but BW_DONE) leaves everything lent to it as it
+ * was, and no call keeps a pointer. A pointer is that of an array of at least the given length; where the length is 0,
+ * it may be NULL. What a call may write to overlaps nothing else that is lent to it. Calls share nothing, so that any
+ * number of threads may call at once.
+ *
+ * A call takes its memory from the stack of its thread and nowhere else. So many bytes were needed for tables of full
+ * size, measured on aarch64 (docs/PERFORMANCE.md):
+ *
+ *   bw_check         16,828
+ *   bw_snapshot      20,908 for a shallow ward; 164,172 for the deepest chain, 1,023 rows: 144 for each level
+ *   bw_repair         8,364
+ *   bw_write_text       372
+ *   bw_read_text        620
  */
 #ifndef BINDLEWORT_H
 #define BINDLEWORT_H
@@ -67,16 +76,16 @@ enum bw_code {
     BW_NODE = 3,       /* a node row breaks its rule: place the smallest such row */
     BW_EDGE = 4,       /* a containment row breaks its rule: place the smallest such row */
     BW_REFERENCE = 5,  /* a reference row breaks its rule: place the smallest such row */
-    BW_OVERLAP = 11,   /* two rows into a node are in force: instant, place the node */
+    BW_OVERLAP = 11,   /* two or more rows into a node are in force: instant, place the node */
     BW_GAP = 12,       /* a node is away between two of its rows: instant, place the node */
     BW_OUTSIDE = 13,   /* a node holds another and is not present: instant, place the node */
     BW_CYCLE = 14,     /* a node holds itself, by one row or a chain of rows: instant, place the node */
     BW_LATE = 15,      /* a reference is in force and its attribute is not present: instant, place the reference row */
     BW_DANGLING = 16,  /* a reference is in force and its target is not present: instant, place the reference row */
     BW_ROOM = 21,      /* an output is too short: see bw_snapshot and bw_read_text */
-    BW_TIE = 22,       /* two rows into one child start together: instant that start, place the later row */
+    BW_TIE = 22,       /* rows into one child start together: instant that start, place the first row with one before */
     BW_EARLY = 23,     /* the asked instant is before the start: instant the asked one */
-    BW_DEEP = 24,      /* a chain of more than 1,023 rows is in force: reserved, since 1,024 nodes allow none */
+    BW_DEEP = 24,      /* a chain of more than 1,023 rows is in force: instant the asked one. 1,024 nodes allow none */
     BW_TEXT = 31,      /* the text is not of the form: place the first byte of the first wrong line */
     BW_TEXTROOM = 32   /* the text output is too short: place the bytes needed */
 };
@@ -99,45 +108,46 @@ struct bw_reading {
 
 /*
  * Checks a history. Answers BW_DONE where it has no fault at any instant. Refuses with BW_SIZE, BW_START, BW_NODE,
- * BW_EDGE, BW_REFERENCE in this order, then with the earliest fault (BW_OVERLAP to BW_DANGLING): the earliest instant that
- * has one, there the smallest code, and there the smallest place. Writes nothing.
+ * BW_EDGE, BW_REFERENCE in this order, then with the earliest fault (BW_OVERLAP to BW_DANGLING): the earliest instant
+ * that has one, there the smallest code, and there the smallest place. Writes nothing.
  */
 struct bw_answered bw_check(uint32_t start, const uint32_t *nodes, size_t nodes_len, const uint32_t *edges,
                             size_t edges_len, const uint32_t *refs, size_t refs_len);
 
 /*
- * Writes what the history contains at instant t. Answers BW_DONE with instant t and place k, and the first 3k numbers of
- * out hold k rows of node, parent, referent: the root first, each node followed by the whole subtree of each of its
- * children, these by rising node number. BW_NO_NODE stands for the root's parent and for no referent. The rest of out is
- * left as it was. Refuses with BW_SIZE to BW_REFERENCE, BW_EARLY, the fault at t of smallest code and place with BW_GAP
- * set aside, and BW_ROOM (instant t, place the rows needed), in this order; then all of out is left as it was. Room for
- * BW_MOST_NODES rows is always enough.
+ * Writes what the history contains at instant t. Answers BW_DONE with instant t and place k, and the first 3k numbers
+ * of out hold k rows of node, parent, referent: the root first, each node followed by the whole subtree of each of its
+ * children, these by rising node number. BW_NO_NODE stands for the root's parent and for no referent. The rest of out
+ * is left as it was. Refuses with BW_SIZE to BW_REFERENCE, BW_EARLY, the fault at t of smallest code and place with
+ * BW_GAP set aside, BW_DEEP, and BW_ROOM (instant t, place the rows needed), in this order; then all of out is left as
+ * it was. Room for BW_MOST_NODES rows is always enough.
  */
 struct bw_answered bw_snapshot(uint32_t start, const uint32_t *nodes, size_t nodes_len, const uint32_t *edges,
                                size_t edges_len, const uint32_t *refs, size_t refs_len, uint32_t t, uint32_t *out,
                                size_t out_len);
 
 /*
- * Repairs overlaps and gaps. Answers BW_DONE with place the count of rows whose end was changed; only ends change. Among
- * the rows into one child, each then ends one instant before the next later start, and the row with the latest start ends
- * at the largest end that any of them had. Refuses with BW_SIZE, BW_START, BW_NODE, BW_EDGE, BW_TIE in this order; then
- * edges is left as it was. Faults from BW_OUTSIDE on may remain or come: check afterwards.
+ * Repairs overlaps and gaps. Answers BW_DONE with place the count of rows whose end was changed; only ends change.
+ * Among the rows into one child, each then ends one instant before the next later start, and the row with the latest
+ * start ends at the largest end that any of them had. Refuses with BW_SIZE, BW_START, BW_NODE, BW_EDGE, BW_TIE in this
+ * order; then edges is left as it was. Faults from BW_OUTSIDE on may remain or come: check afterwards.
  */
-struct bw_answered bw_repair(uint32_t start, const uint32_t *nodes, size_t nodes_len, uint32_t *edges, size_t edges_len);
+struct bw_answered bw_repair(uint32_t start, const uint32_t *nodes, size_t nodes_len, uint32_t *edges,
+                             size_t edges_len);
 
 /*
- * Writes the tables as text. Answers BW_DONE with place the count of bytes written to the front of out; the rest is left
- * as it was, and no zero byte is added. Applies no row rules. Refuses with BW_SIZE, then BW_TEXTROOM (place the bytes
- * needed); then all of out is left as it was. The bytes needed can be asked for with an out of length 0.
+ * Writes the tables as text. Answers BW_DONE with place the count of bytes written to the front of out; the rest is
+ * left as it was, and no zero byte is added. Applies no row rules. Refuses with BW_SIZE, then BW_TEXTROOM (place the
+ * bytes needed); then all of out is left as it was. The bytes needed can be asked for with an out of length 0.
  */
 struct bw_answered bw_write_text(uint32_t start, const uint32_t *nodes, size_t nodes_len, const uint32_t *edges,
                                  size_t edges_len, const uint32_t *refs, size_t refs_len, uint8_t *out, size_t out_len);
 
 /*
- * Reads the tables from text. Answers BW_DONE with the start and the counts of rows, which fill the front of each table;
- * the rest is left as it was. Applies no row rules. Refuses with BW_TEXT (place the first byte of the first wrong line,
- * or the length of the text where a line is missing), then BW_ROOM (place 0 nodes, 1 edges, 2 refs: the first table too
- * short); then start and counts are 0 and all tables are left as they were.
+ * Reads the tables from text. Answers BW_DONE with the start and the counts of rows, which fill the front of each
+ * table; the rest is left as it was. Applies no row rules. Refuses with BW_TEXT (place the first byte of the first
+ * wrong line, or the length of the text where a line is missing), then BW_ROOM (place 0 nodes, 1 edges, 2 refs: the
+ * first table too short); then start and counts are 0 and all tables are left as they were.
  */
 struct bw_reading bw_read_text(const uint8_t *text, size_t text_len, uint32_t *nodes, size_t nodes_len, uint32_t *edges,
                                size_t edges_len, uint32_t *refs, size_t refs_len);

@@ -6,7 +6,8 @@
 #include "bindlewort.h"
 
 struct bw_reading *bw_read_text_at(struct bw_reading *reading, const uint8_t *text, size_t text_len, uint32_t *nodes,
-                                   size_t nodes_len, uint32_t *edges, size_t edges_len, uint32_t *refs, size_t refs_len);
+                                   size_t nodes_len, uint32_t *edges, size_t edges_len, uint32_t *refs,
+                                   size_t refs_len);
 
 struct bw_reading bw_read_text(const uint8_t *text, size_t text_len, uint32_t *nodes, size_t nodes_len, uint32_t *edges,
                                size_t edges_len, uint32_t *refs, size_t refs_len) {

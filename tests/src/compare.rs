@@ -1,31 +1,35 @@
-//! The library beside the model: each function makes one call of both on equal inputs, and fails where the answers or any
-//! number or byte of what was lent differ, also before the front and past the end of what was lent.
+//! The library beside the model: each function makes one call of both on equal inputs, and fails where the answers or
+//! any number or byte of what was lent differ, also before the front and past the end of what was lent.
 
-use crate::{model, Answered, Reading, EDGE_WIDTH, NODE_WIDTH, REF_WIDTH};
+use crate::histories::History;
+use crate::{code, model, Answered, Reading, EDGE_WIDTH, NODE_WIDTH, REF_WIDTH};
 use std::fmt::Debug;
 use std::hint::black_box;
 
 /// How often each code was answered by one of the calls.
 pub struct Tally {
     call: &'static str,
-    counts: [usize; 33],
+    counts: [usize; CODES],
 }
+
+/// Codes are below this.
+const CODES: usize = code::TEXTROOM as usize + 1;
 
 impl Tally {
     pub fn of(call: &'static str) -> Tally {
-        Tally { call, counts: [0; 33] }
+        Tally { call, counts: [0; CODES] }
     }
 
     fn count(&mut self, answer: Answered) {
         self.counts[answer.code as usize] += 1;
     }
 
-    /// Fails unless exactly these codes were met.
-    pub fn met_exactly(&self, codes: &[usize]) {
-        let met: Vec<(usize, usize)> = (0..33).map(|code| (code, self.counts[code])).filter(|c| c.1 > 0).collect();
+    /// Fails unless exactly these codes were met. Prints the count of calls, which `tests/run` adds up.
+    pub fn met_exactly(&self, codes: &[u32]) {
+        let met: Vec<(u32, usize)> = (0..).zip(self.counts).filter(|c| c.1 > 0).collect();
         let total: usize = self.counts.iter().sum();
         println!("{}: {total} calls; code and count: {met:?}", self.call);
-        let met: Vec<usize> = met.into_iter().map(|c| c.0).collect();
+        let met: Vec<u32> = met.into_iter().map(|c| c.0).collect();
         assert_eq!(met, codes, "the codes that {} answered", self.call);
     }
 }
@@ -75,28 +79,38 @@ fn lent(numbers: &[u32]) -> Lent<u32> {
     Lent::of(numbers, GUARD)
 }
 
-pub fn check(tally: &mut Tally, start: u32, nodes: &[u32], edges: &[u32], refs: &[u32]) -> Answered {
-    let (mut n, mut m, mut k) = (lent(nodes), lent(edges), lent(refs));
-    let said = crate::check(start, n.content(), m.content(), k.content());
-    let expected = model::check(start, nodes, edges, refs);
-    let input = || format!("check: start {start} nodes {nodes:?} edges {edges:?} refs {refs:?}");
-    assert_eq!(said, expected, "{}", input());
-    assert!(n.back() == nodes && m.back() == edges && k.back() == refs, "a table changed: {}", input());
+fn lent_tables(history: &History) -> [Lent<u32>; 3] {
+    [lent(&history.nodes), lent(&history.edges), lent(&history.refs)]
+}
+
+/// Fails where a table is not as it was lent.
+fn unchanged(tables: [Lent<u32>; 3], history: &History) {
+    let [nodes, edges, refs] = tables.map(Lent::back);
+    let same = nodes == history.nodes && edges == history.edges && refs == history.refs;
+    assert!(same, "a table changed: {history:?}");
+}
+
+pub fn check(tally: &mut Tally, history: &History) -> Answered {
+    let History { start, nodes, edges, refs } = history;
+    let [mut n, mut m, mut k] = lent_tables(history);
+    let said = crate::check(*start, n.content(), m.content(), k.content());
+    assert_eq!(said, model::check(*start, nodes, edges, refs), "check of {history:?}");
+    unchanged([n, m, k], history);
     tally.count(said);
     said
 }
 
-pub fn repair(tally: &mut Tally, start: u32, nodes: &[u32], edges: &[u32]) -> (Answered, Vec<u32>) {
+pub fn repair(tally: &mut Tally, history: &History) -> (Answered, Vec<u32>) {
+    let History { start, nodes, edges, .. } = history;
     let (mut n, mut m) = (lent(nodes), lent(edges));
-    let said = crate::repair(start, n.content(), m.content());
-    let mut mended = edges.to_vec();
-    let expected = model::repair(start, nodes, &mut mended);
-    let input = || format!("repair: start {start} nodes {nodes:?} edges {edges:?}");
+    let said = crate::repair(*start, n.content(), m.content());
+    let mut mended = edges.clone();
+    let expected = model::repair(*start, nodes, &mut mended);
     let left = m.back();
-    assert_eq!(said, expected, "{}", input());
-    assert_eq!(left, mended, "{}", input());
-    assert!(n.back() == nodes, "the nodes changed: {}", input());
-    assert!(said.code == 0 || left == edges, "a refusal wrote: {}", input());
+    assert_eq!(said, expected, "repair of {history:?}");
+    assert_eq!(left, mended, "repair of {history:?}");
+    assert!(n.back() == *nodes, "the nodes changed: {history:?}");
+    assert!(said.code == code::DONE || left == *edges, "a refusal wrote: {history:?}");
     tally.count(said);
     (said, left)
 }
@@ -106,50 +120,39 @@ fn unwritten(numbers: usize) -> Vec<u32> {
     (0..numbers as u32).map(|i| 0xC0DE_0000 + i).collect()
 }
 
-pub fn snapshot(
-    tally: &mut Tally,
-    start: u32,
-    nodes: &[u32],
-    edges: &[u32],
-    refs: &[u32],
-    t: u32,
-    room: usize,
-) -> (Answered, Vec<u32>) {
+pub fn snapshot(tally: &mut Tally, history: &History, t: u32, room: usize) -> (Answered, Vec<u32>) {
+    let History { start, nodes, edges, refs } = history;
     let before = unwritten(room);
-    let (mut n, mut m, mut k, mut out) = (lent(nodes), lent(edges), lent(refs), lent(&before));
-    let said = crate::snapshot(start, n.content(), m.content(), k.content(), t, out.content());
+    let mut out = lent(&before);
+    let [mut n, mut m, mut k] = lent_tables(history);
+    let said = crate::snapshot(*start, n.content(), m.content(), k.content(), t, out.content());
     let mut shown = before.clone();
-    let expected = model::snapshot(start, nodes, edges, refs, t, &mut shown);
-    let input = || format!("snapshot: start {start} nodes {nodes:?} edges {edges:?} refs {refs:?} t {t} room {room}");
+    let expected = model::snapshot(*start, nodes, edges, refs, t, &mut shown);
     let left = out.back();
-    assert_eq!(said, expected, "{}", input());
-    assert_eq!(left, shown, "{}", input());
-    assert!(n.back() == nodes && m.back() == edges && k.back() == refs, "a table changed: {}", input());
-    assert!(said.code == 0 || left == before, "a refusal wrote: {}", input());
+    assert_eq!(said, expected, "snapshot at {t} with room {room} of {history:?}");
+    assert_eq!(left, shown, "snapshot at {t} with room {room} of {history:?}");
+    assert!(
+        said.code == code::DONE || left == before,
+        "a refusal wrote: snapshot at {t} with room {room} of {history:?}"
+    );
+    unchanged([n, m, k], history);
     tally.count(said);
     (said, left)
 }
 
-pub fn write_text(
-    tally: &mut Tally,
-    start: u32,
-    nodes: &[u32],
-    edges: &[u32],
-    refs: &[u32],
-    room: usize,
-) -> (Answered, Vec<u8>) {
+pub fn write_text(tally: &mut Tally, history: &History, room: usize) -> (Answered, Vec<u8>) {
+    let History { start, nodes, edges, refs } = history;
     let before: Vec<u8> = (0..room).map(|i| 128 + (i % 100) as u8).collect();
-    let (mut n, mut m, mut k) = (lent(nodes), lent(edges), lent(refs));
     let mut out = Lent::of(&before, 0xA5);
-    let said = crate::write_text(start, n.content(), m.content(), k.content(), out.content());
+    let [mut n, mut m, mut k] = lent_tables(history);
+    let said = crate::write_text(*start, n.content(), m.content(), k.content(), out.content());
     let mut written = before.clone();
-    let expected = model::write_text(start, nodes, edges, refs, &mut written);
-    let input = || format!("write text: start {start} nodes {nodes:?} edges {edges:?} refs {refs:?} room {room}");
+    let expected = model::write_text(*start, nodes, edges, refs, &mut written);
     let left = out.back();
-    assert_eq!(said, expected, "{}", input());
-    assert!(left == written, "other text: {}", input());
-    assert!(n.back() == nodes && m.back() == edges && k.back() == refs, "a table changed: {}", input());
-    assert!(said.code == 0 || left == before, "a refusal wrote: {}", input());
+    assert_eq!(said, expected, "write text with room {room} of {history:?}");
+    assert!(left == written, "other text with room {room} of {history:?}");
+    assert!(said.code == code::DONE || left == before, "a refusal wrote: room {room}, {history:?}");
+    unchanged([n, m, k], history);
     tally.count(said);
     (said, left)
 }
@@ -167,7 +170,7 @@ pub fn read_text(tally: &mut Tally, text: &[u8], room: [usize; 3]) -> (Reading, 
     assert_eq!(said, expected, "{}", input());
     assert!(left == [nodes, edges, refs], "other tables: {}", input());
     assert!(source.back() == text, "the text changed: {}", input());
-    assert!(said.answer.code == 0 || left == before, "a refusal wrote: {}", input());
+    assert!(said.answer.code == code::DONE || left == before, "a refusal wrote: {}", input());
     tally.count(said.answer);
     (said, left)
 }

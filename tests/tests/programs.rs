@@ -1,33 +1,83 @@
-//! The header and the library as C and C++ programs meet them: compiled with every warning an error, linked, run.
+//! The header and the library as programs meet them: compiled with every warning an error, linked, run. And the
+//! examples, which the readme shows.
 
-use std::path::Path;
+use std::env;
+use std::fs;
+use std::path::{Path, PathBuf};
 use std::process::Command;
 
-fn succeeds(command: &mut Command) {
+/// What a program writes to standard output, where it succeeds.
+fn output(command: &mut Command) -> String {
     let output = command.output().unwrap_or_else(|error| panic!("{command:?}: {error}"));
-    let said = String::from_utf8_lossy(&output.stdout) + String::from_utf8_lossy(&output.stderr);
-    assert!(output.status.success(), "{command:?}\n{said}");
+    let said = String::from_utf8_lossy(&output.stdout);
+    assert!(output.status.success(), "{command:?}\n{said}{}", String::from_utf8_lossy(&output.stderr));
+    said.into_owned()
 }
 
-/// Compiles a program of the folder c with the header and the library, and runs it.
-fn compiled_and_run(compiler: &str, standard: &str, source: &str) {
-    let package = Path::new(env!("CARGO_MANIFEST_DIR"));
-    let program = Path::new(env!("CARGO_TARGET_TMPDIR")).join(format!("{source}.{standard}"));
+/// A file of the repository.
+fn file(name: &str) -> PathBuf {
+    Path::new(env!("CARGO_MANIFEST_DIR")).join("..").join(name)
+}
+
+/// Compiles a program with the header and the library, and runs it.
+fn compiled_and_run(compiler: &str, standard: &str, source: &str) -> String {
+    let source = file(source);
+    let program = Path::new(env!("CARGO_TARGET_TMPDIR")).join(source.file_name().unwrap()).with_extension(standard);
     let mut command = Command::new(compiler);
     command.args(["-Wall", "-Wextra", "-Werror", "-pedantic"]).arg(format!("-std={standard}"));
-    command.arg("-I").arg(package.join("../include"));
+    command.arg("-I").arg(file("include"));
     command.arg("-o").arg(&program);
-    command.arg(package.join("c").join(source)).arg(env!("BINDLEWORT_ARCHIVE"));
-    succeeds(&mut command);
-    succeeds(&mut Command::new(&program));
+    command.arg(source).arg(env!("BINDLEWORT_ARCHIVE"));
+    output(&mut command);
+    output(&mut Command::new(&program))
+}
+
+fn read(name: &str) -> String {
+    fs::read_to_string(file(name)).unwrap_or_else(|error| panic!("{name}: {error}"))
+}
+
+/// Whether the readme has the whole file as a block of its language.
+fn shown(example: &str, language: &str) -> bool {
+    read("README.md").contains(&format!("\n```{language}\n{}```\n", read(example)))
+}
+
+/// The six kinds and the eighteen codes have one name and one number in C and in Rust.
+#[test]
+fn the_wrapper_has_the_names_of_the_header() {
+    let wrapper = read("tests/src/bindlewort.rs");
+    let header = read("include/bindlewort.h");
+    let named = header.lines().filter_map(|line| line.trim().strip_prefix("BW_")?.split_once(" = "));
+    let mut found = 0;
+    for (name, rest) in named {
+        let number: String = rest.chars().take_while(char::is_ascii_digit).collect();
+        let line = format!("    pub const {name}: u32 = {number};\n");
+        assert!(wrapper.contains(&line), "the wrapper does not have BW_{name} = {number}");
+        found += 1;
+    }
+    assert_eq!(found, 6 + 18);
 }
 
 #[test]
 fn a_c_program_calls_the_library() {
-    compiled_and_run("gcc", "c99", "calls.c");
+    compiled_and_run("gcc", "c99", "tests/c/calls.c");
 }
 
 #[test]
 fn a_cpp_program_calls_the_library() {
-    compiled_and_run("g++", "c++11", "calls.cc");
+    compiled_and_run("g++", "c++11", "tests/c/calls.cc");
+}
+
+#[test]
+fn the_example_in_c() {
+    assert_eq!(compiled_and_run("gcc", "c99", "tests/examples/check.c"), "16 100 0\n");
+    assert!(shown("tests/examples/check.c", "c"), "the readme shows another tests/examples/check.c");
+}
+
+/// Cargo compiles the examples of a package with its tests, into a folder beside theirs.
+#[test]
+fn the_example_in_rust() {
+    let test = env::current_exe().unwrap();
+    let program = test.parent().and_then(Path::parent).unwrap().join("examples/check");
+    assert_eq!(output(&mut Command::new(program)), "16 100 0\n");
+    assert!(shown("tests/examples/check.rs", "rust"), "the readme shows another tests/examples/check.rs");
 }

@@ -1,6 +1,7 @@
-//! Check and repair beside the model on seeded random histories: sound, hurt and wild ones. Every code that a call can give
-//! must be met, and no other.
+//! Check and repair beside the model on seeded random histories: sound, hurt and wild ones. Every code that a call can
+//! give must be met, and no other.
 
+use bindlewort_tests::code::*;
 use bindlewort_tests::compare::{self, rounds, Tally};
 use bindlewort_tests::histories::{any, grown, wild, History};
 use bindlewort_tests::model;
@@ -12,10 +13,9 @@ fn check_agrees_with_the_model() {
     let random = &mut Random::seeded(11);
     let tally = &mut Tally::of("check");
     for _ in 0..80_000 * rounds() {
-        let history = any(random);
-        compare::check(tally, history.start, &history.nodes, &history.edges, &history.refs);
+        compare::check(tally, &any(random));
     }
-    tally.met_exactly(&[0, 1, 2, 3, 4, 5, 11, 12, 13, 14, 15, 16]);
+    tally.met_exactly(&[DONE, SIZE, START, NODE, EDGE, REFERENCE, OVERLAP, GAP, OUTSIDE, CYCLE, LATE, DANGLING]);
 }
 
 #[test]
@@ -23,10 +23,9 @@ fn repair_agrees_with_the_model() {
     let random = &mut Random::seeded(12);
     let tally = &mut Tally::of("repair");
     for _ in 0..60_000 * rounds() {
-        let history = any(random);
-        compare::repair(tally, history.start, &history.nodes, &history.edges);
+        compare::repair(tally, &any(random));
     }
-    tally.met_exactly(&[0, 1, 2, 3, 4, 22]);
+    tally.met_exactly(&[DONE, SIZE, START, NODE, EDGE, TIE]);
 }
 
 #[test]
@@ -36,12 +35,12 @@ fn grown_histories_are_accepted_and_need_no_repair() {
     for _ in 0..10_000 * rounds() {
         let (nodes, steps) = (random.between(1, 12), random.between(0, 60));
         let history = grown(random, nodes, steps);
-        compare::check(checks, history.start, &history.nodes, &history.edges, &history.refs);
-        let (said, _) = compare::repair(repairs, history.start, &history.nodes, &history.edges);
+        compare::check(checks, &history);
+        let (said, _) = compare::repair(repairs, &history);
         assert_eq!(said.place, 0, "an accepted history has nothing to repair: {history:?}");
     }
-    checks.met_exactly(&[0]);
-    repairs.met_exactly(&[0]);
+    checks.met_exactly(&[DONE]);
+    repairs.met_exactly(&[DONE]);
 }
 
 /// After repair no two rows into one node overlap and none leaves a gap, and a second repair finds nothing to do.
@@ -52,16 +51,18 @@ fn repaired_histories_have_neither_overlap_nor_gap() {
     let mut mended = 0;
     while mended < 5_000 * rounds() {
         let history = any(random);
-        let (said, edges) = compare::repair(repairs, history.start, &history.nodes, &history.edges);
-        if said.code == 0 && said.place > 0 {
+        let (said, edges) = compare::repair(repairs, &history);
+        if said.code == DONE && said.place > 0 {
             mended += 1;
-            let after = compare::check(checks, history.start, &history.nodes, &edges, &[]);
-            assert!([0, 13, 14].contains(&after.code), "{after:?} after the repair of {history:?}");
-            let (again, _) = compare::repair(repairs, history.start, &history.nodes, &edges);
-            assert_eq!((again.code, again.place), (0, 0), "a second repair of {history:?}");
+            let after = History { edges, refs: vec![], ..history };
+            let left = compare::check(checks, &after);
+            assert!([DONE, OUTSIDE, CYCLE].contains(&left.code), "{left:?} after a repair: {after:?}");
+            let (again, _) = compare::repair(repairs, &after);
+            assert_eq!((again.code, again.place), (DONE, 0), "a second repair of {after:?}");
         }
     }
-    checks.met_exactly(&[0, 13, 14]);
+    checks.met_exactly(&[DONE, OUTSIDE, CYCLE]);
+    repairs.met_exactly(&[DONE, SIZE, START, NODE, EDGE, TIE]);
 }
 
 /// The model looks at the instants next to the numbers in the rows; this holds it to trying every instant.
@@ -73,7 +74,7 @@ fn the_model_misses_no_instant() {
         let History { start, nodes, edges, refs } = wild(random);
         let said = model::check(start, &nodes, &edges, &refs);
         assert_eq!(said, model::check_every_instant(start, &nodes, &edges, &refs, 25));
-        faulty += usize::from(said.code >= 11);
+        faulty += usize::from(said.code >= OVERLAP);
     }
     assert!(faulty > 1_000, "only {faulty} of the histories have a fault");
 }
@@ -92,12 +93,12 @@ fn extremes_in_every_place() {
                 for other in extremes(number) {
                     let mut history = sound.clone();
                     [&mut history.nodes, &mut history.edges, &mut history.refs][table][place] = other;
-                    compare::check(checks, history.start, &history.nodes, &history.edges, &history.refs);
-                    compare::repair(repairs, history.start, &history.nodes, &history.edges);
+                    compare::check(checks, &history);
+                    compare::repair(repairs, &history);
                 }
             }
         }
     }
-    checks.met_exactly(&[0, 3, 4, 5, 11, 12, 13, 14, 15, 16]);
-    repairs.met_exactly(&[0, 3, 4, 22]);
+    checks.met_exactly(&[DONE, NODE, EDGE, REFERENCE, OVERLAP, GAP, OUTSIDE, CYCLE, LATE, DANGLING]);
+    repairs.met_exactly(&[DONE, NODE, EDGE, TIE]);
 }

@@ -1,11 +1,12 @@
 //! Tables at, below and past each limit, and accepted histories of full size.
 
+use bindlewort_tests::code::*;
 use bindlewort_tests::compare::{self, Tally};
 use bindlewort_tests::histories::{chain, late_fault, most_instants, ward, History, Size};
 use bindlewort_tests::NOW;
 
-/// Tables of so many numbers that obey the row rules where they are whole rows: elements, rows into them that follow one
-/// another, no references in force at an instant without their nodes.
+/// Tables of so many numbers that obey the row rules where they are whole rows: elements, rows into them that follow
+/// one another, no references in force at an instant without their nodes.
 fn tables(nodes: usize, edges: usize, refs: usize) -> History {
     let fill = |length: usize, row: &dyn Fn(u32) -> Vec<u32>| (0u32..).flat_map(row).take(length).collect::<Vec<u32>>();
     History {
@@ -40,18 +41,18 @@ fn every_length_of_one_table_is_judged() {
             let mut sizes = [3 * 8, 4 * 8, 4 * 8];
             sizes[table] = length;
             let history = tables(sizes[0], sizes[1], sizes[2]);
-            let said = compare::check(checks, history.start, &history.nodes, &history.edges, &history.refs);
-            assert_eq!(said.code != 1, fits, "check of table {table} with {length} numbers");
+            let said = compare::check(checks, &history);
+            assert_eq!(said.code != SIZE, fits, "check of table {table} with {length} numbers");
             assert!(fits || said.place as usize == table, "check of table {table} with {length} numbers");
             if table < 2 {
-                let (said, _) = compare::repair(repairs, history.start, &history.nodes, &history.edges);
-                assert_eq!(said.code != 1, fits, "repair of table {table} with {length} numbers");
+                let (said, _) = compare::repair(repairs, &history);
+                assert_eq!(said.code != SIZE, fits, "repair of table {table} with {length} numbers");
                 assert!(fits || said.place as usize == table, "repair of table {table} with {length} numbers");
             }
         }
     }
-    checks.met_exactly(&[0, 1, 4, 15, 16]);
-    repairs.met_exactly(&[0, 1, 4]);
+    checks.met_exactly(&[DONE, SIZE, EDGE, LATE, DANGLING]);
+    repairs.met_exactly(&[DONE, SIZE, EDGE]);
 }
 
 #[test]
@@ -61,21 +62,22 @@ fn the_first_table_out_of_size_is_named_before_all_else() {
         let length = |table: usize, right: usize| if wrong & (1 << table) == 0 { right } else { right + 1 };
         let mut history = tables(length(0, 24), length(1, 32), length(2, 32));
         history.start = NOW;
-        let said = compare::check(tally, history.start, &history.nodes, &history.edges, &history.refs);
-        let expected = if wrong == 0 { (2, 0) } else { (1, wrong.trailing_zeros()) };
+        let said = compare::check(tally, &history);
+        let expected = if wrong == 0 { (START, 0) } else { (SIZE, wrong.trailing_zeros()) };
         assert_eq!((said.code, said.place), expected);
     }
-    tally.met_exactly(&[1, 2]);
+    tally.met_exactly(&[SIZE, START]);
 }
 
 #[test]
 fn start_at_the_last_instants() {
     let tally = &mut Tally::of("check");
-    let history = History::of_elements(1).with_edges(&[[0, 1, NOW - 1, NOW]]);
-    for (start, code) in [(NOW - 2, 0), (NOW - 1, 0), (NOW, 2)] {
-        assert_eq!(compare::check(tally, start, &history.nodes, &history.edges, &[]).code, code);
+    let mut history = History::of_elements(1).with_edges(&[[0, 1, NOW - 1, NOW]]);
+    for (start, code) in [(NOW - 2, DONE), (NOW - 1, DONE), (NOW, START)] {
+        history.start = start;
+        assert_eq!(compare::check(tally, &history).code, code);
     }
-    tally.met_exactly(&[0, 2]);
+    tally.met_exactly(&[DONE, START]);
 }
 
 /// The instants at which a row starts or has just ended.
@@ -102,9 +104,9 @@ fn full_size_histories_are_accepted() {
     let tally = &mut Tally::of("check");
     for history in [ward(Size::FULL), chain(Size::FULL), most_instants(Size::FULL)] {
         assert!(is_full(&history));
-        compare::check(tally, history.start, &history.nodes, &history.edges, &history.refs);
+        compare::check(tally, &history);
     }
-    tally.met_exactly(&[0]);
+    tally.met_exactly(&[DONE]);
     assert_eq!(change_instants(&most_instants(Size::FULL)), 5_119);
 }
 
@@ -113,26 +115,26 @@ fn a_fault_at_the_last_instant_of_a_full_size_history_is_found() {
     let tally = &mut Tally::of("check");
     let history = late_fault(Size::FULL);
     assert!(is_full(&history));
-    let said = compare::check(tally, history.start, &history.nodes, &history.edges, &history.refs);
-    assert_eq!((said.code, said.instant, said.place), (13, 5_118, 1));
+    let said = compare::check(tally, &history);
+    assert_eq!((said.code, said.instant, said.place), (OUTSIDE, 5_118, 1));
 }
 
 #[test]
 fn full_size_histories_are_repaired() {
     let tally = &mut Tally::of("repair");
     for sound in [ward(Size::FULL), chain(Size::FULL), most_instants(Size::FULL)] {
-        let (said, _) = compare::repair(tally, sound.start, &sound.nodes, &sound.edges);
-        assert_eq!((said.code, said.place), (0, 0));
+        let (said, _) = compare::repair(tally, &sound);
+        assert_eq!((said.code, said.place), (DONE, 0));
         // Every end lost: repair finds those of the earlier stays again.
         let mut open = sound.clone();
         for row in open.edges.chunks_mut(4) {
             row[3] = NOW;
         }
-        let (said, mended) = compare::repair(tally, open.start, &open.nodes, &open.edges);
+        let (said, mended) = compare::repair(tally, &open);
         let lost = sound.edges.chunks(4).zip(mended.chunks(4)).filter(|(row, new)| row[3] != new[3]).count();
         assert!(said.place > 0 && lost < 1_024, "{lost} ends are lost");
     }
-    tally.met_exactly(&[0]);
+    tally.met_exactly(&[DONE]);
 }
 
 /// One number of a full-size history changed, in places spread over all rows.
@@ -144,10 +146,10 @@ fn full_size_histories_hurt_in_one_place() {
         for place in (0..sound.edges.len()).step_by(1_021) {
             let mut history = sound.clone();
             history.edges[place] = history.edges[place].wrapping_add(1) % 1_030;
-            compare::check(tally, history.start, &history.nodes, &history.edges, &history.refs);
-            compare::repair(repairs, history.start, &history.nodes, &history.edges);
+            compare::check(tally, &history);
+            compare::repair(repairs, &history);
         }
     }
-    tally.met_exactly(&[0, 4, 11, 12, 13, 14]);
-    repairs.met_exactly(&[0, 4, 22]);
+    tally.met_exactly(&[DONE, EDGE, OVERLAP, GAP, OUTSIDE, CYCLE]);
+    repairs.met_exactly(&[DONE, EDGE, TIE]);
 }

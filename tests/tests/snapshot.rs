@@ -1,20 +1,17 @@
 //! Snapshot beside the model, and its cases of 'Both sides of the line'.
 
-use bindlewort_tests::compare::{self, rounds, Tally};
+use bindlewort_tests::code::*;
+use bindlewort_tests::compare::{rounds, snapshot, Tally};
 use bindlewort_tests::histories::{any, chain, h, most_instants, ward, History, Size};
 use bindlewort_tests::random::Random;
-use bindlewort_tests::{Answered, MOST_NODES, NOW, NO_NODE, SNAPSHOT_WIDTH};
+use bindlewort_tests::{MOST_NODES, NOW, NO_NODE, SNAPSHOT_WIDTH};
 
 const ENOUGH: usize = MOST_NODES * SNAPSHOT_WIDTH;
-
-fn snapshot(tally: &mut Tally, history: &History, t: u32, room: usize) -> (Answered, Vec<u32>) {
-    compare::snapshot(tally, history.start, &history.nodes, &history.edges, &history.refs, t, room)
-}
 
 /// Code, instant and place that snapshot answers, and the rows of an accepted one.
 fn shown(history: &History, t: u32) -> ((u32, u32, u32), Vec<[u32; 3]>) {
     let (said, out) = snapshot(&mut Tally::of("snapshot"), history, t, ENOUGH);
-    let rows = if said.code == 0 { said.place as usize } else { 0 };
+    let rows = if said.code == DONE { said.place as usize } else { 0 };
     ((said.code, said.instant, said.place), out.chunks(3).take(rows).map(|r| [r[0], r[1], r[2]]).collect())
 }
 
@@ -23,33 +20,33 @@ const N: u32 = NO_NODE;
 #[test]
 fn h_at_50() {
     let rows = vec![[0, N, N], [1, 0, N], [4, 1, N], [5, 4, 3], [2, 0, N], [3, 2, N]];
-    assert_eq!(shown(&h(), 50), ((0, 50, 6), rows));
+    assert_eq!(shown(&h(), 50), ((DONE, 50, 6), rows));
 }
 
 #[test]
 fn h_before_and_after_the_stays() {
     let rows = vec![[0, N, N], [1, 0, N], [2, 0, N]];
-    assert_eq!(shown(&h(), 9), ((0, 9, 3), rows.clone()));
-    assert_eq!(shown(&h(), 100), ((16, 100, 0), vec![]));
-    assert_eq!(shown(&h(), 121), ((0, 121, 3), rows));
+    assert_eq!(shown(&h(), 9), ((DONE, 9, 3), rows.clone()));
+    assert_eq!(shown(&h(), 100), ((DANGLING, 100, 0), vec![]));
+    assert_eq!(shown(&h(), 121), ((DONE, 121, 3), rows));
 }
 
 #[test]
 fn a_gap_is_set_aside() {
     let mut history = h();
     history.edges[4 * 3 + 2] = 52;
-    assert_eq!(shown(&history, 50), ((16, 50, 0), vec![]));
+    assert_eq!(shown(&history, 50), ((DANGLING, 50, 0), vec![]));
     history.refs.clear();
-    assert_eq!(shown(&history, 50).0, (0, 50, 5));
+    assert_eq!(shown(&history, 50).0, (DONE, 50, 5));
 }
 
 #[test]
 fn the_root_alone() {
     let mut history = History::of_elements(0);
-    assert_eq!(shown(&history, 0), ((0, 0, 1), vec![[0, N, N]]));
+    assert_eq!(shown(&history, 0), ((DONE, 0, 1), vec![[0, N, N]]));
     history.start = 7;
-    assert_eq!(shown(&history, 6), ((23, 6, 0), vec![]));
-    assert_eq!(shown(&history, 7), ((0, 7, 1), vec![[0, N, N]]));
+    assert_eq!(shown(&history, 6), ((EARLY, 6, 0), vec![]));
+    assert_eq!(shown(&history, 7), ((DONE, 7, 1), vec![[0, N, N]]));
 }
 
 #[test]
@@ -63,7 +60,8 @@ fn the_smallest_reference_row_in_force_is_shown() {
     );
 }
 
-/// All codes that snapshot can give, and not 12 or 24: GAP is set aside, and 1,024 nodes allow no chain of 1,024 rows.
+/// All codes that snapshot can give, and not GAP or DEEP: the one is set aside, and 1,024 nodes allow no chain of 1,024
+/// rows.
 #[test]
 fn snapshot_agrees_with_the_model() {
     let random = &mut Random::seeded(21);
@@ -74,7 +72,9 @@ fn snapshot_agrees_with_the_model() {
         let room = if random.once_in(2) { random.below(30) } else { 30 };
         snapshot(tally, &history, t, room);
     }
-    tally.met_exactly(&[0, 1, 2, 3, 4, 5, 11, 13, 14, 15, 16, 21, 23]);
+    let rules = [SIZE, START, NODE, EDGE, REFERENCE];
+    let faults = [OVERLAP, OUTSIDE, CYCLE, LATE, DANGLING];
+    tally.met_exactly(&[&[DONE], &rules[..], &faults, &[ROOM, EARLY]].concat());
 }
 
 /// Every room from none to more than enough: one number short is refused, and what is past the rows stays.
@@ -83,9 +83,9 @@ fn room_just_short_and_just_enough() {
     let tally = &mut Tally::of("snapshot");
     for room in 0..25 {
         let (said, _) = snapshot(tally, &h(), 50, room);
-        assert_eq!((said.code, said.instant, said.place), if room < 18 { (21, 50, 6) } else { (0, 50, 6) });
+        assert_eq!((said.code, said.instant, said.place), if room < 18 { (ROOM, 50, 6) } else { (DONE, 50, 6) });
     }
-    tally.met_exactly(&[0, 21]);
+    tally.met_exactly(&[DONE, ROOM]);
 }
 
 #[test]
@@ -95,29 +95,29 @@ fn full_size_histories() {
         for t in [0, 1, 999, 2_500, 4_000, 100_000, NOW - 1, NOW] {
             let (said, _) = snapshot(tally, &history, t, ENOUGH);
             let rows = said.place as usize;
-            for (room, code) in [(3 * rows - 1, 21), (3 * rows, 0)] {
+            for (room, code) in [(3 * rows - 1, ROOM), (3 * rows, DONE)] {
                 assert_eq!(snapshot(tally, &history, t, room).0.code, code);
             }
         }
     }
-    tally.met_exactly(&[0, 21]);
+    tally.met_exactly(&[DONE, ROOM]);
 }
 
-/// The deepest chain that there can be: 1,023 rows. Code 24 stays unused.
+/// The deepest chain that there can be: 1,023 rows. DEEP stays unused.
 #[test]
 fn the_deepest_chain() {
     let tally = &mut Tally::of("snapshot");
     let rows: Vec<[u32; 4]> = (1..1_024).map(|n| [n - 1, n, 0, NOW]).collect();
     let history = History::of_elements(1_023).with_edges(&rows);
     let (said, _) = snapshot(tally, &history, 5, ENOUGH);
-    assert_eq!((said.code, said.place), (0, 1_024));
+    assert_eq!((said.code, said.place), (DONE, 1_024));
     let reversed: Vec<[u32; 4]> = (1..1_024).map(|n| [if n == 1_023 { 0 } else { n + 1 }, n, 0, NOW]).collect();
     let history = History::of_elements(1_023).with_edges(&reversed);
-    assert_eq!(snapshot(tally, &history, 5, ENOUGH).0.code, 0);
-    tally.met_exactly(&[0]);
+    assert_eq!(snapshot(tally, &history, 5, ENOUGH).0.code, DONE);
+    tally.met_exactly(&[DONE]);
 }
 
-/// Lengths of one table around its limits: code 1 with the table as its place, before all else.
+/// Lengths of one table around its limits: SIZE with the table as its place, before all else.
 #[test]
 fn sizes_are_judged_first() {
     let tally = &mut Tally::of("snapshot");
@@ -125,11 +125,13 @@ fn sizes_are_judged_first() {
         for length in [1, width - 1, width + 1, most * width - 1, most * width + 1, (most + 1) * width] {
             let mut tables = [vec![0, 1, 0], vec![], vec![]];
             tables[table].resize(length, 0);
-            let (said, _) = compare::snapshot(tally, NOW, &tables[0], &tables[1], &tables[2], 0, 3);
-            assert_eq!((said.code, said.place), (1, table as u32));
+            let [nodes, edges, refs] = tables;
+            let (said, _) = snapshot(tally, &History { start: NOW, nodes, edges, refs }, 0, 3);
+            assert_eq!((said.code, said.place), (SIZE, table as u32));
         }
     }
-    let (said, _) = compare::snapshot(tally, NOW, &[], &[1], &[1], 0, 3);
-    assert_eq!((said.code, said.place), (1, 0));
-    tally.met_exactly(&[1]);
+    let broken = History { start: NOW, nodes: vec![], edges: vec![1], refs: vec![1] };
+    let (said, _) = snapshot(tally, &broken, 0, 3);
+    assert_eq!((said.code, said.place), (SIZE, 0));
+    tally.met_exactly(&[SIZE]);
 }

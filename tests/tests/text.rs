@@ -1,6 +1,7 @@
 //! Write text and read text beside the model: round trips, damaged text, room just short and just enough.
 
-use bindlewort_tests::compare::{self, numbers_read, rounds, Tally};
+use bindlewort_tests::code::*;
+use bindlewort_tests::compare::{numbers_read, read_text, rounds, write_text, Tally};
 use bindlewort_tests::histories::{chain, grown, h, hurt, most_instants, random_tables, ward, History, Size, H_TEXT};
 use bindlewort_tests::random::Random;
 use bindlewort_tests::{model, Answered, Reading, MOST_EDGES, MOST_NODES, MOST_REFS, NOW};
@@ -8,31 +9,23 @@ use bindlewort_tests::{model, Answered, Reading, MOST_EDGES, MOST_NODES, MOST_RE
 const ENOUGH: [usize; 3] = [3 * MOST_NODES, 4 * MOST_EDGES, 4 * MOST_REFS];
 
 /// The longest text has some 90,000 bytes.
-const ROOM: usize = 200_000;
-
-fn write(tally: &mut Tally, history: &History, room: usize) -> (Answered, Vec<u8>) {
-    compare::write_text(tally, history.start, &history.nodes, &history.edges, &history.refs, room)
-}
+const LONG: usize = 200_000;
 
 /// The text of tables that are in size, by the model.
 fn text_of(history: &History) -> Option<Vec<u8>> {
-    let mut out = vec![0; ROOM];
+    let mut out = vec![0; LONG];
     let said = model::write_text(history.start, &history.nodes, &history.edges, &history.refs, &mut out);
     out.truncate(said.place as usize);
-    if said.code == 0 {
-        Some(out)
-    } else {
-        None
-    }
+    (said.code == DONE).then_some(out)
 }
 
 /// Writes tables, reads the text, and finds the same tables and the same text again.
 fn round_trip(writes: &mut Tally, reads: &mut Tally, history: &History) {
-    let (said, out) = write(writes, history, ROOM);
-    assert_eq!(said.code, 0);
+    let (said, out) = write_text(writes, history, LONG);
+    assert_eq!(said.code, DONE);
     let text = &out[..said.place as usize];
-    let (reading, tables) = compare::read_text(reads, text, ENOUGH);
-    assert_eq!((reading.answer.code, reading.start), (0, history.start));
+    let (reading, tables) = read_text(reads, text, ENOUGH);
+    assert_eq!((reading.answer.code, reading.start), (DONE, history.start));
     for (table, numbers) in [&history.nodes, &history.edges, &history.refs].into_iter().enumerate() {
         assert_eq!(numbers_read(reading)[table], numbers.len());
         assert_eq!(&tables[table][..numbers.len()], &numbers[..]);
@@ -41,11 +34,11 @@ fn round_trip(writes: &mut Tally, reads: &mut Tally, history: &History) {
 
 #[test]
 fn h_is_written_and_read() {
-    let (said, out) = write(&mut Tally::of("write text"), &h(), H_TEXT.len());
-    assert_eq!((said.code, said.instant, said.place as usize), (0, 0, H_TEXT.len()));
+    let (said, out) = write_text(&mut Tally::of("write text"), &h(), H_TEXT.len());
+    assert_eq!((said.code, said.instant, said.place as usize), (DONE, 0, H_TEXT.len()));
     assert_eq!(out, H_TEXT.as_bytes());
-    let (reading, tables) = compare::read_text(&mut Tally::of("read text"), H_TEXT.as_bytes(), [18, 24, 4]);
-    let answer = Answered { code: 0, instant: 0, place: 0 };
+    let (reading, tables) = read_text(&mut Tally::of("read text"), H_TEXT.as_bytes(), [18, 24, 4]);
+    let answer = Answered { code: DONE, instant: 0, place: 0 };
     assert_eq!(reading, Reading { answer, start: 0, nodes: 6, edges: 6, refs: 1 });
     assert_eq!(tables, [h().nodes, h().edges, h().refs]);
 }
@@ -60,8 +53,8 @@ fn full_size_tables_make_the_round_trip() {
     let long = |numbers: usize| vec![NOW - 1; numbers];
     let [nodes, edges, refs] = ENOUGH.map(long);
     round_trip(writes, reads, &History { start: NOW, nodes, edges, refs });
-    writes.met_exactly(&[0]);
-    reads.met_exactly(&[0]);
+    writes.met_exactly(&[DONE]);
+    reads.met_exactly(&[DONE]);
 }
 
 /// Tables of every sort: the text needs no row rules.
@@ -78,13 +71,13 @@ fn write_text_agrees_with_the_model() {
             2 => needed,
             _ => needed + random.below(9),
         };
-        let (said, _) = write(writes, &history, room);
-        if said.code == 0 {
+        let (said, _) = write_text(writes, &history, room);
+        if said.code == DONE {
             round_trip(writes, reads, &history);
         }
     }
-    writes.met_exactly(&[0, 1, 32]);
-    reads.met_exactly(&[0]);
+    writes.met_exactly(&[DONE, SIZE, TEXTROOM]);
+    reads.met_exactly(&[DONE]);
 }
 
 #[test]
@@ -95,14 +88,15 @@ fn write_text_judges_sizes_alone() {
             for more in [0, 1, width - 1] {
                 let mut tables = [vec![9; 3], vec![], vec![]];
                 tables[table] = vec![NOW; rows * width + more];
-                let (said, _) = compare::write_text(tally, NOW, &tables[0], &tables[1], &tables[2], ROOM);
+                let [nodes, edges, refs] = tables;
+                let (said, _) = write_text(tally, &History { start: NOW, nodes, edges, refs }, LONG);
                 let fits = more == 0 && rows >= least && rows <= most;
-                assert_eq!(said.code, if fits { 0 } else { 1 });
+                assert_eq!(said.code, if fits { DONE } else { SIZE });
                 assert!(fits || said.place == table as u32);
             }
         }
     }
-    tally.met_exactly(&[0, 1]);
+    tally.met_exactly(&[DONE, SIZE]);
 }
 
 /// Each room from none to more than enough for H.
@@ -110,11 +104,11 @@ fn write_text_judges_sizes_alone() {
 fn text_room_just_short_and_just_enough() {
     let tally = &mut Tally::of("write text");
     for room in 0..H_TEXT.len() + 9 {
-        let (said, _) = write(tally, &h(), room);
-        assert_eq!(said.code, if room < H_TEXT.len() { 32 } else { 0 });
+        let (said, _) = write_text(tally, &h(), room);
+        assert_eq!(said.code, if room < H_TEXT.len() { TEXTROOM } else { DONE });
         assert_eq!(said.place as usize, H_TEXT.len());
     }
-    tally.met_exactly(&[0, 32]);
+    tally.met_exactly(&[DONE, TEXTROOM]);
 }
 
 /// Each room from none to more than enough for the tables of H: the first that is too short is named.
@@ -124,24 +118,20 @@ fn table_room_just_short_and_just_enough() {
     for nodes in [0, 1, 17, 18, 19] {
         for edges in [0, 1, 23, 24, 25] {
             for refs in [0, 1, 3, 4, 5] {
-                let (said, _) = compare::read_text(tally, H_TEXT.as_bytes(), [nodes, edges, refs]);
+                let (said, _) = read_text(tally, H_TEXT.as_bytes(), [nodes, edges, refs]);
                 let short = [nodes < 18, edges < 24, refs < 4].iter().position(|&s| s);
-                let expected = short.map_or((0, 0), |table| (21, table as u32));
+                let expected = short.map_or((DONE, 0), |table| (ROOM, table as u32));
                 assert_eq!((said.answer.code, said.answer.place), expected);
             }
         }
     }
-    tally.met_exactly(&[0, 21]);
+    tally.met_exactly(&[DONE, ROOM]);
 }
 
 /// Where the first wrong line of a text starts.
 fn place(text: &str) -> Option<u32> {
-    let (said, _) = compare::read_text(&mut Tally::of("read text"), text.as_bytes(), ENOUGH);
-    if said.answer.code == 31 {
-        Some(said.answer.place)
-    } else {
-        None
-    }
+    let (said, _) = read_text(&mut Tally::of("read text"), text.as_bytes(), ENOUGH);
+    (said.answer.code == TEXT).then_some(said.answer.place)
 }
 
 #[test]
@@ -246,10 +236,10 @@ fn text_with_every_byte_changed() {
         for byte in 0..=255 {
             let mut text = H_TEXT.as_bytes().to_vec();
             text[at] = byte;
-            compare::read_text(tally, &text, [24, 40, 40]);
+            read_text(tally, &text, [24, 40, 40]);
         }
     }
-    tally.met_exactly(&[0, 31]);
+    tally.met_exactly(&[DONE, TEXT]);
 }
 
 /// Damages a text in one place.
@@ -307,13 +297,13 @@ fn read_text_agrees_with_the_model() {
             text = (0..random.below(60)).map(|_| random.word() as u8).collect();
         }
         let room = [0, 1, 2].map(|_| if random.once_in(4) { random.below(40) } else { 200 });
-        let (said, _) = compare::read_text(tally, &text, room);
-        if said.answer.code == 21 {
+        let (said, _) = read_text(tally, &text, room);
+        if said.answer.code == ROOM {
             short[said.answer.place as usize] += 1;
         }
     }
-    tally.met_exactly(&[0, 21, 31]);
-    assert!(short.iter().all(|&count| count > 100), "places of code 21: {short:?}");
+    tally.met_exactly(&[DONE, ROOM, TEXT]);
+    assert!(short.iter().all(|&count| count > 100), "places of ROOM: {short:?}");
 }
 
 /// A full-size text damaged near its end, and one past the sizes.
@@ -324,11 +314,11 @@ fn long_text() {
     for at in [text.len() - 1, text.len() - 2, text.len() - 40, text.len() / 2, 5] {
         let mut damaged = text.clone();
         damaged[at] = b'x';
-        compare::read_text(tally, &damaged, ENOUGH);
+        read_text(tally, &damaged, ENOUGH);
     }
     let mut long = text.clone();
     long.extend(vec![b'\n'; 100_000]);
-    let (said, _) = compare::read_text(tally, &long, ENOUGH);
+    let (said, _) = read_text(tally, &long, ENOUGH);
     assert_eq!(said.answer.place as usize, text.len());
-    tally.met_exactly(&[31]);
+    tally.met_exactly(&[TEXT]);
 }

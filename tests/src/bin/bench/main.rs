@@ -1,5 +1,5 @@
-//! The library beside the same algorithms in plain Rust, interleaved in one run: medians, ratios, growth with size, and the
-//! stack that each call needs. `cargo run --release --bin bench`
+//! The library beside the same algorithms in plain Rust, interleaved in one run: medians, ratios, growth with size,
+//! and the stack that each call needs. `tests/bench` builds the library and runs this.
 
 mod plain;
 mod stack;

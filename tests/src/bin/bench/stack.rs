@@ -1,5 +1,5 @@
-//! How much stack a call needs: it runs in a thread whose stack is a block of our own, filled with a pattern, and what is
-//! still the pattern afterwards was not needed.
+//! How much stack a call needs: it runs in a thread whose stack is a block of our own, filled with a pattern, and what
+//! is still the pattern afterwards was not needed.
 
 use std::ffi::c_void;
 use std::hint::black_box;

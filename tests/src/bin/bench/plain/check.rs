@@ -1,6 +1,7 @@
 //! The faults at an instant, and check: a pass over the rows at each instant at which something changes.
 
 use super::{answer, rules};
+use bindlewort_tests::code::*;
 use bindlewort_tests::{Answered, EDGE_WIDTH, MOST_NODES, NODE_WIDTH, NOW, REF_WIDTH};
 
 pub const NONE: u32 = u32::MAX;
@@ -79,14 +80,14 @@ fn comes_back(up: &[u32; MOST_NODES], n: usize, c: usize) -> bool {
 /// The codes after GAP.
 pub fn after_gap(up: &[u32; MOST_NODES], n: usize, refs: &[u32], t: u32) -> Option<Answered> {
     if let Some(place) = outside(up, n) {
-        return Some(answer(13, t, place));
+        return Some(answer(OUTSIDE, t, place));
     }
     if !settled(up, n) {
         if let Some(place) = (0..n).find(|&c| comes_back(up, n, c)) {
-            return Some(answer(14, t, place));
+            return Some(answer(CYCLE, t, place));
         }
     }
-    for (side, code) in [(0, 15), (1, 16)] {
+    for (side, code) in [(0, LATE), (1, DANGLING)] {
         let astray = |row: &[u32]| in_force(row, t) && absent(up, row[side] as usize);
         if let Some(place) = refs.chunks_exact(REF_WIDTH).position(astray) {
             return Some(answer(code, t, place));
@@ -96,7 +97,7 @@ pub fn after_gap(up: &[u32; MOST_NODES], n: usize, refs: &[u32], t: u32) -> Opti
 }
 
 pub fn overlap(up: &[u32; MOST_NODES], n: usize, t: u32) -> Option<Answered> {
-    up[..n].iter().position(|&parent| parent == MANY).map(|place| answer(11, t, place))
+    up[..n].iter().position(|&parent| parent == MANY).map(|place| answer(OVERLAP, t, place))
 }
 
 /// The last instant before the next change.
@@ -130,14 +131,14 @@ pub fn check(start: u32, nodes: &[u32], edges: &[u32], refs: &[u32]) -> Answered
             return fault;
         }
         if let Some(place) = (0..n).find(|&c| absent(&up, c) && first[c] < t && t < last[c]) {
-            return answer(12, t, place);
+            return answer(GAP, t, place);
         }
         if let Some(fault) = after_gap(&up, n, refs, t) {
             return fault;
         }
         let calm = until(edges, t).min(until(refs, t));
         if calm == NOW {
-            return answer(0, 0, 0);
+            return answer(DONE, 0, 0);
         }
         t = calm + 1;
     }

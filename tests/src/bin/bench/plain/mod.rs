@@ -10,6 +10,7 @@ pub use repair::repair;
 pub use snapshot::snapshot;
 pub use text::{read_text, write_text};
 
+use bindlewort_tests::code::*;
 use bindlewort_tests::{Answered, NOW};
 use bindlewort_tests::{EDGE_WIDTH, MOST_EDGES, MOST_NODES, MOST_REFS, NODE_WIDTH, REF_WIDTH};
 
@@ -25,13 +26,13 @@ fn fits(numbers: usize, width: usize, least: usize, most: usize) -> bool {
 
 fn sizes(nodes: &[u32], edges: &[u32], refs: &[u32]) -> Option<Answered> {
     if !fits(nodes.len(), NODE_WIDTH, 1, MOST_NODES) {
-        return Some(answer(1, 0, 0));
+        return Some(answer(SIZE, 0, 0));
     }
     if !fits(edges.len(), EDGE_WIDTH, 0, MOST_EDGES) {
-        return Some(answer(1, 0, 1));
+        return Some(answer(SIZE, 0, 1));
     }
     if !fits(refs.len(), REF_WIDTH, 0, MOST_REFS) {
-        return Some(answer(1, 0, 2));
+        return Some(answer(SIZE, 0, 2));
     }
     None
 }
@@ -55,18 +56,18 @@ fn rules(start: u32, nodes: &[u32], edges: &[u32], refs: &[u32]) -> Option<Answe
         return Some(refusal);
     }
     if start == NOW {
-        return Some(answer(2, 0, 0));
+        return Some(answer(START, 0, 0));
     }
     if let Some(i) = nodes.chunks_exact(NODE_WIDTH).enumerate().position(|(i, node)| bad_node(i, node)) {
-        return Some(answer(3, 0, i));
+        return Some(answer(NODE, 0, i));
     }
     let holds = |parent, child| (parent <= 1 && (1..=5).contains(&child)) || ((2..=3).contains(&parent) && child == 5);
     if let Some(i) = edges.chunks_exact(EDGE_WIDTH).position(|row| bad_row(start, nodes, row, holds)) {
-        return Some(answer(4, 0, i));
+        return Some(answer(EDGE, 0, i));
     }
     let refers = |attribute, target| attribute == 4 && target == 1;
     if let Some(i) = refs.chunks_exact(REF_WIDTH).position(|row| bad_row(start, nodes, row, refers)) {
-        return Some(answer(5, 0, i));
+        return Some(answer(REFERENCE, 0, i));
     }
     None
 }

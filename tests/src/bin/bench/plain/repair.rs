@@ -1,6 +1,7 @@
 //! Repair: for each row a look at all rows.
 
 use super::{answer, rules};
+use bindlewort_tests::code::*;
 use bindlewort_tests::{Answered, EDGE_WIDTH, MOST_EDGES, NOW};
 
 fn first_tie(edges: &[u32]) -> Option<usize> {
@@ -10,7 +11,8 @@ fn first_tie(edges: &[u32]) -> Option<usize> {
     edges.chunks_exact(EDGE_WIDTH).enumerate().position(tied)
 }
 
-/// The end of a row after repair: one instant before the next start among the rows into its child, or their largest end.
+/// The end of a row after repair: one instant before the next start among the rows into its child, or their largest
+/// end.
 fn new_end(edges: &[u32], row: &[u32]) -> u32 {
     let mut next = NOW;
     let mut last = 0;
@@ -35,7 +37,7 @@ pub fn repair(start: u32, nodes: &[u32], edges: &mut [u32]) -> Answered {
         return refusal;
     }
     if let Some(i) = first_tie(edges) {
-        return answer(22, edges[EDGE_WIDTH * i + 2], i);
+        return answer(TIE, edges[EDGE_WIDTH * i + 2], i);
     }
     let mut ends = [0; MOST_EDGES];
     for (end, row) in ends.iter_mut().zip(edges.chunks_exact(EDGE_WIDTH)) {
@@ -46,5 +48,5 @@ pub fn repair(start: u32, nodes: &[u32], edges: &mut [u32]) -> Answered {
         changed += usize::from(row[3] != end);
         row[3] = end;
     }
-    answer(0, 0, changed)
+    answer(DONE, 0, changed)
 }

@@ -2,6 +2,7 @@
 
 use super::check::{after_gap, in_force, overlap, parents, NONE};
 use super::{answer, rules};
+use bindlewort_tests::code::*;
 use bindlewort_tests::{Answered, MOST_NODES, NODE_WIDTH, NO_NODE, REF_WIDTH, SNAPSHOT_WIDTH};
 
 struct Tree {
@@ -30,7 +31,7 @@ pub fn snapshot(start: u32, nodes: &[u32], edges: &[u32], refs: &[u32], t: u32, 
         return refusal;
     }
     if t < start {
-        return answer(23, t, 0);
+        return answer(EARLY, t, 0);
     }
     let n = nodes.len() / NODE_WIDTH;
     let up = parents(edges, t);
@@ -39,7 +40,7 @@ pub fn snapshot(start: u32, nodes: &[u32], edges: &[u32], refs: &[u32], t: u32, 
     }
     let rows = 1 + up[..n].iter().filter(|&&parent| parent != NONE).count();
     if out.len() < rows * SNAPSHOT_WIDTH {
-        return answer(21, t, rows);
+        return answer(ROOM, t, rows);
     }
     let mut tree = Tree { first: [NO_NODE; MOST_NODES], next: [NO_NODE; MOST_NODES], referents: [NO_NODE; MOST_NODES] };
     for row in refs.chunks_exact(REF_WIDTH) {
@@ -54,5 +55,5 @@ pub fn snapshot(start: u32, nodes: &[u32], edges: &[u32], refs: &[u32], t: u32, 
         }
     }
     tree.walk(0, NO_NODE, out);
-    answer(0, t, rows)
+    answer(DONE, t, rows)
 }

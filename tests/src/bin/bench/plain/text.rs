@@ -1,6 +1,7 @@
 //! Write text, which counts the bytes first, and read text, which checks all lines first.
 
 use super::{answer, sizes};
+use bindlewort_tests::code::*;
 use bindlewort_tests::{Answered, Reading, NOW};
 use bindlewort_tests::{EDGE_WIDTH, MOST_EDGES, MOST_NODES, MOST_REFS, NODE_WIDTH, REF_WIDTH};
 
@@ -76,13 +77,13 @@ pub fn write_text(start: u32, nodes: &[u32], edges: &[u32], refs: &[u32], out: &
     ];
     let needed = lines.iter().map(|(key, width, numbers)| lines_length(key, *width, numbers)).sum();
     if out.len() < needed {
-        return answer(32, 0, needed);
+        return answer(TEXTROOM, 0, needed);
     }
     let mut filled = Filled { out, at: 0 };
     for (key, width, numbers) in lines {
         filled.lines(key, width, numbers);
     }
-    answer(0, 0, needed)
+    answer(DONE, 0, needed)
 }
 
 // ---- Read text
@@ -170,12 +171,12 @@ pub fn read_text(text: &[u8], nodes: &mut [u32], edges: &mut [u32], refs: &mut [
     let mut rest = text;
     let head = match scan(&mut rest) {
         Ok(head) => head,
-        Err(left) => return refused(answer(31, 0, text.len() - left.len())),
+        Err(left) => return refused(answer(TEXT, 0, text.len() - left.len())),
     };
     let tables = [nodes, edges, refs];
     for (place, ((_, width), count)) in ROWS.into_iter().zip(head.counts).enumerate() {
         if tables[place].len() < width * count as usize {
-            return refused(answer(21, 0, place));
+            return refused(answer(ROOM, 0, place));
         }
     }
     for (((key, width), count), table) in ROWS.into_iter().zip(head.counts).zip(tables) {
@@ -184,5 +185,5 @@ pub fn read_text(text: &[u8], nodes: &mut [u32], edges: &mut [u32], refs: &mut [
         }
     }
     let [nodes, edges, refs] = head.counts;
-    Reading { answer: answer(0, 0, 0), start: head.start, nodes, edges, refs }
+    Reading { answer: answer(DONE, 0, 0), start: head.start, nodes, edges, refs }
 }
