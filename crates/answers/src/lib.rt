@@ -1,16 +1,22 @@
-// What the calls answer. The paper's numbers stand in specs/Numbers.antt and, for the running program, in `code` below:
-// nowhere else in the library.
+// What the calls answer. The paper's numbers stand in specs/Numbers.antt and, for the running program, in the two
+// functions `code` below: nowhere else in the library.
 ghost use mathlib.Core.Path.{_≡_};
-ghost use Rattle.answers.specs.Numbers.{codeOf, placeOf, numbers, refuses};
+ghost use Rattle.answers.specs.Numbers.{codeOf, fault, numbers, refuses};
 
-// A fault at an instant, with its place: a node, or a reference row.
-pub enum Fault {
-    Overlap(u32),
-    Gap(u32),
-    Outside(u32),
-    Cycle(u32),
-    Late(u32),
-    Dangling(u32),
+// The kinds of faults, in the order of their codes.
+pub enum Kind {
+    Overlap,
+    Gap,
+    Outside,
+    Cycle,
+    Late,
+    Dangling,
+}
+
+// A fault at an instant: its kind, and its place, a node or a reference row.
+pub struct Fault {
+    pub kind: Kind,
+    pub place: u32,
 }
 
 // An instant stands before a place. Done is code 0.
@@ -30,31 +36,36 @@ pub enum Answer {
     TextRoom(u32),
 }
 
-impl Fault {
+impl Kind {
     pub fn code(self) -> u32
         ensures { λ r. ⌜ r ≡ codeOf self ⌝ }
     {
         match self {
-            Fault::Overlap(_) => 11,
-            Fault::Gap(_) => 12,
-            Fault::Outside(_) => 13,
-            Fault::Cycle(_) => 14,
-            Fault::Late(_) => 15,
-            Fault::Dangling(_) => 16,
+            Kind::Overlap => 11,
+            Kind::Gap => 12,
+            Kind::Outside => 13,
+            Kind::Cycle => 14,
+            Kind::Late => 15,
+            Kind::Dangling => 16,
+        }
+    }
+}
+
+impl Fault {
+    pub fn of(kind: Kind, place: u32) -> Fault
+        ensures { λ r. ⌜ r ≡ fault kind place ⌝ }
+    {
+        Fault {
+            kind: kind,
+            place: place,
         }
     }
 
-    pub fn place(self) -> u32
-        ensures { λ r. ⌜ r ≡ placeOf self ⌝ }
+    pub fn code(self) -> u32
+        ensures { λ r. ⌜ r ≡ codeOf (self .kind) ⌝ }
     {
-        match self {
-            Fault::Overlap(n) => n,
-            Fault::Gap(n) => n,
-            Fault::Outside(n) => n,
-            Fault::Cycle(n) => n,
-            Fault::Late(r) => r,
-            Fault::Dangling(r) => r,
-        }
+        let kind = self.kind;
+        kind.code()
     }
 }
 
@@ -109,7 +120,7 @@ impl Answer {
             Answer::Node(p) => p,
             Answer::Edge(p) => p,
             Answer::Reference(p) => p,
-            Answer::Faulty(_, f) => f.place(),
+            Answer::Faulty(_, f) => f.place,
             Answer::Room(_, p) => p,
             Answer::Tie(_, p) => p,
             Answer::Early(_) => 0,

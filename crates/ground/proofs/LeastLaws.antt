@@ -89,19 +89,6 @@ least-same f g l =
       here = λ h. f _ h (l .here h);
     }
 
--- the smallest number with one of two properties is the smaller of their smallest numbers
-pub least-or : {P Q : ℕ → Type 0} {n a b : ℕ} → Least P n a → Least Q n b → Least (λ i. P i ⊎ Q i) n (min a b)
-least-or {P} {Q} {n} {a} {b} l r =
-    record {
-      within = omega (arith, l .within);
-      before = λ i h. ⊎-elim (λ p. l .before i (omega arith) p) (λ q. r .before i (omega arith) q);
-      here = λ h. at h (decLe a b);
-    }
-  where
-    at : min a b < n → Dec (a ≤ b) → P (min a b) ⊎ Q (min a b)
-    at h (yes g) = let e : min a b ≡ a = omega arith in inl (rw e (l .here (omega arith)))
-    at h (no g) = let e : min a b ≡ b = omega arith in inr (rw e (r .here (omega arith)))
-
 -- the greatest number below n with a property that can be decided, or that there is none
 abbrev pub Greatest : (ℕ → Type 0) → ℕ → ℕ → Type 0
 Greatest P n k = (k < n) × P k × ((i : ℕ) → k < i → i < n → P i → ⊥)

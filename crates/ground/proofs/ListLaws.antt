@@ -2,12 +2,13 @@
 -- nothing.
 use mathlib.Core.Path.{_≡_, refl, sym, ap, ap₂, _∙_}
 use mathlib.Core.List.{List, [], _∷_, _++_, append-assoc, append-nil}
-use Prim.Native.Nat.{ℕ, suc, _+_, _≤_, _<_}
+use mathlib.Core.Logic.{_⊎_, inl, inr, ⊎-elim}
+use Prim.Native.Nat.{ℕ, zero, suc, _+_, _≤_, _<_}
 use native.Mathlib.Decide.{ℕ-discrete}
 use native.Mathlib.Nat.{add-zero}
 use native.Mathlib.Numerals.{add-one}
 use native.Mathlib.Omega.{arith}
-use lib.ListN.{length, getD, set, drop, length-append, length-drop, List·getD-eq-default}
+use lib.ListN.{length, getD, set, drop, length-set, length-append, length-drop, List·getD-eq-default}
 use lib.Seq.{
   sets,
   sets-eq,
@@ -35,6 +36,24 @@ set-below P l i v li all here k lk = go (ℕ-discrete k i)
     go : Dec (k ≡ i) → P k (getD (set l i v) k 0)
     go (yes e) = rw (e, getD-set-same l i v 0 li) here
     go (no e) = rw (getD-set-other l i k v 0 e) (all k (omega arith))
+
+-- an element before a run of stores, and one after it, stays; one of the run is what was stored
+pub sets-outside : (l : List ℕ) (i j : ℕ) (a : List ℕ) → (j < i) ⊎ (i + length a ≤ j)
+    → getD (sets l i a) j 0 ≡ getD l j 0
+sets-outside l i j [] h = refl
+sets-outside l i j (x ∷ a) h =
+    sets-outside (set l i x) (suc i) j a (⊎-elim (λ b. inl (omega arith)) (λ b. inr (omega arith)) h)
+    ∙ getD-set-other l i j x 0 (⊎-elim (λ b e. omega arith) (λ b e. omega arith) h)
+
+pub sets-inside : (l : List ℕ) (i k : ℕ) (a : List ℕ) → k < length a → i + length a ≤ length l
+    → getD (sets l i a) (i + k) 0 ≡ getD a k 0
+sets-inside l i k [] h f = absurd (omega arith)
+sets-inside l i zero (x ∷ a) h f =
+    let e : i + 0 ≡ i = omega arith in
+    rw e (sets-outside (set l i x) (suc i) i a (inl (omega arith)) ∙ getD-set-same l i x 0 (omega arith))
+sets-inside l i (suc k) (x ∷ a) h f =
+    let e : i + suc k ≡ suc i + k = omega arith in
+    rw e (sets-inside (set l i x) (suc i) k a (omega arith) (rw (length-set l i x) (omega arith)))
 
 -- one run of stores after another is one run
 pub sets-append : (l : List ℕ) (i : ℕ) (a b : List ℕ) → sets l i (a ++ b) ≡ sets (sets l i a) (i + length a) b

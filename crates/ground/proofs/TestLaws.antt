@@ -14,6 +14,10 @@ by-test false f g = g refl
 pub by-lt : (m n : ℕ) {A : Type 0} → (m < n → A) → (n ≤ m → A) → A
 by-lt m n f g = by-test (ltb m n) (λ e. f (ltb-true m n e)) (λ e. g (ltb-false m n e))
 
+pub both : (a b : Bool) → a && b ≡ true → (a ≡ true) × (b ≡ true)
+both true b e = (refl, e)
+both false b e = absurd (false≢true e)
+
 pub tells-and : (a b : Bool) {P Q : Type 0} → Tells a P → Tells b Q → Tells (a && b) (P × Q)
 tells-and true b e f = (λ t. (e .0 refl, f .0 t), λ x. f .1 (x .1))
 tells-and false b e f = (λ t. absurd (false≢true t), λ x. e .1 (x .0))
