@@ -1,252 +1,256 @@
--- The answer of the rules is the one that `Gives` allows; without references it is that of the containment alone.
--- Assumes nothing.
-use mathlib.Core.Path.{_≡_, sym, _∙_, subst}
-use mathlib.Core.Logic.{_≢_, ⊎-elim}
-use mathlib.Core.Bool.{Bool, false, false≢true}
-use mathlib.Core.List.{List, []}
-use Prim.Native.Nat.{ℕ, _<_}
+-- The tests of sizes and rows tell what breaks a rule. The answer of the rules is the one that `Gives` allows; and
+-- tables are not refused exactly if they obey the rules. Assumes nothing.
+use mathlib.Core.Path.{_≡_, refl, sym, ap, _∙_, subst}
+use mathlib.Core.Logic.{_≢_, _↔_, Iff·trans, ⊎-elim}
+use mathlib.Core.Bool.{Bool, true, false, not, false≢true}
+use Prim.Native.Nat.{ℕ, _/_, _%_, _<_}
 use native.Mathlib.Decide.{ℕ-discrete}
+use native.Mathlib.Nat.{div-add-mod', mul-div-cancel, mul-mod-left}
 use native.Mathlib.Omega.{arith}
-use lib.ListN.{length}
 use lib.Dec.{ltb}
-use borrow.Author.Tests.{eq-eqb, ne-eqb, lt-ltb, le-ltb}
+use lib.ListN.{length}
+use borrow.Author.Tests.{not-false, eq-eqb, ne-eqb, lt-ltb, le-ltb}
 use Rattle.ground.specs.Tests.{Tells}
 use Rattle.ground.specs.Least.{Least, least}
-use Rattle.ground.proofs.TestLaws.{by-test, tells-not, tells-fails, tells-dec}
+use Rattle.ground.proofs.TestLaws.{tells-and, tells-not, tells-le, tells-eq, tells-fails, tells-dec}
 use Rattle.ground.proofs.LeastLaws.{least-unique, least-tells, all-or-least, search-missed}
 use Rattle.answers.specs.declared.Answer.{Answer}
-use Rattle.answers.specs.declared.Answer.the-variants.{Size, Start, Node, Edge, Reference}
+use Rattle.answers.specs.declared.Answer.the-variants.{Start, Size, Node, Edge, Reference}
 use Rattle.answers.specs.Numbers.{refuses}
-use Rattle.answers.specs.Refusals.{passed, _⨾_}
+use Rattle.answers.specs.Refusals.{passed, when}
+use Rattle.answers.proofs.AnswerLaws.{both-pass, when-passes}
 use Rattle.tables.specs.Instants.{Now}
-use Rattle.tables.specs.Rows.{
-  nodeWidth,
-  edgeWidth,
-  refWidth,
-  nodeAt,
-  edgeAt,
-  refAt,
-  nodeCount,
-  edgeCount,
-  refCount,
-}
-use Rattle.tables.specs.Rules.{
-  sizeRule,
+use Rattle.tables.specs.Rows.{nodeWidth, edgeWidth, refWidth, edgeAt, refAt}
+use Rattle.tables.specs.Tables.{Table, Tables, nodeIn, edgeIn, refIn}
+use Rattle.tables.specs.Sizes.{
   leastNodes,
   mostNodes,
   mostEdges,
   mostRefs,
+  SizeRule,
+  sizeRule,
   NodesSize,
   EdgesSize,
   RefsSize,
   Sizes,
-  NodeRule,
-  EdgeRule,
-  RefRule,
-  badNode,
-  badEdge,
-  badRef,
-}
-use Rattle.tables.specs.Says.{
   nodesFit,
   edgesFit,
   refsFit,
-  sizesSay,
-  allSizesSay,
-  rowsSay,
-  refsSay,
-  containmentSays,
-  historySays,
-  Rows,
 }
+use Rattle.tables.specs.Rules.{NodeRule, EdgeRule, RefRule, badNode, badRow}
+use Rattle.tables.specs.Says.{sizesSay, rowsSay, historySays, Obeys}
 use Rattle.tables.specs.Gives.{Smallest, BadNode, BadEdge, BadRef, Gives}
 use Rattle.tables.specs.Gives.{nodes-size, edges-size, refs-size, start-now, node, edge, reference, nothing}
 use Rattle.tables.proofs.RuleLaws.{node-tells, edge-tells, ref-tells}
-use Rattle.tables.proofs.SaysLaws.{size-tells, rows-sound}
 
-module _ (start : ℕ) (ns es rs : List ℕ) where
-  n-tells : Tells (nodesFit ns) (NodesSize ns)
-  n-tells = size-tells nodeWidth leastNodes mostNodes (length ns) (omega arith)
+pub size-tells : (w least most : ℕ) (x : Table) → 0 < w
+    → Tells (sizeRule w least most (x .count) (length (x .numbers))) (SizeRule w least most x)
+unfolding sizeRule
+size-tells w least most x h =
+    let numbers = length (x .numbers) in
+    Iff·trans
+    (tells-and _ _ (tells-and _ _ (tells-eq (numbers % w) 0) (tells-eq (numbers / w) (x .count)))
+    (tells-and _ _ (tells-le least (x .count)) (tells-le (x .count) most))) (
+      λ ((a, b), (c, d)).
+          record { whole = sym (div-add-mod' numbers w) ∙ rw (a, b) (omega arith); least = c; most = d },
+      λ r. (
+        (
+          ap (λ y. y % w) (r .whole) ∙ mul-mod-left (x .count) w,
+          ap (λ y. y / w) (r .whole) ∙ mul-div-cancel (x .count) h,
+        ),
+        (r .least, r .most),
+      ),
+    )
 
-  m-tells : Tells (edgesFit es) (EdgesSize es)
-  m-tells = size-tells edgeWidth 0 mostEdges (length es) (omega arith)
+-- the smallest bad row, by whatever means it was found; and where none is bad
+module _ (bad : ℕ → Bool) (P : ℕ → Type 0) (tells : (i : ℕ) → Tells (bad i) (P i)) (n : ℕ) where
+  smallest-is : {k : ℕ} → Least P n k → k ≡ least bad n
+  smallest-is l = least-unique P l (least-tells bad P n (λ i h. tells i))
 
-  k-tells : Tells (refsFit rs) (RefsSize rs)
-  k-tells = size-tells refWidth 0 mostRefs (length rs) (omega arith)
-
-  bad-node-tells : (i : ℕ) → Tells (badNode (nodeAt ns) i) (BadNode start ns es rs i)
-  unfolding badNode
-  bad-node-tells i = tells-not _ (node-tells i (nodeAt ns i))
-
-  bad-edge-tells : (i : ℕ) → Tells (badEdge start (nodeCount ns) (nodeAt ns) (edgeAt es) i) (BadEdge start ns es rs i)
-  unfolding badEdge
-  bad-edge-tells i = tells-not _ (edge-tells start (nodeCount ns) (nodeAt ns) (edgeAt es i))
-
-  bad-ref-tells : (i : ℕ) → Tells (badRef start (nodeCount ns) (nodeAt ns) (refAt rs) i) (BadRef start ns es rs i)
-  unfolding badRef
-  bad-ref-tells i = tells-not _ (ref-tells start (nodeCount ns) (nodeAt ns) (refAt rs i))
-
-  -- the smallest bad row, by whatever means it was found
-  smallest-is : (bad : ℕ → Bool) (P : ℕ → Type 0) → ((i : ℕ) → Tells (bad i) (P i)) → (n k : ℕ) → Least P n k
-      → k ≡ least bad n
-  smallest-is bad P tells n k l = least-unique P l (least-tells bad P n (λ i h. tells i))
-
-  nothing-bad : (bad : ℕ → Bool) (n : ℕ) → ((i : ℕ) → i < n → bad i ≡ false) → ltb (least bad n) n ≡ false
-  nothing-bad bad n f = le-ltb (least bad n) n (omega (arith, at))
+  none-bad : ((i : ℕ) → i < n → P i → ⊥) → ltb (least bad n) n ≡ false
+  none-bad f = le-ltb (least bad n) n (omega (arith, at))
     where
       at : n ≡ least bad n
-      at = search-missed bad {k = n} (omega arith) (λ i h t. false≢true (sym (f i h) ∙ t))
+      at = search-missed bad {k = n} (omega arith) (λ i h t. f i h (tells i .0 t))
 
-  nodes-right : ((i : ℕ) → i < nodeCount ns → NodeRule i (nodeAt ns i))
-      → ltb (least (badNode (nodeAt ns)) (nodeCount ns)) (nodeCount ns) ≡ false
-  nodes-right f =
-      nothing-bad (badNode (nodeAt ns)) (nodeCount ns) (λ i h. tells-fails _ (bad-node-tells i) (λ x. x (f i h)))
+module _ (L : Tables) where
+  n-tells : Tells (nodesFit (L .nodes)) (NodesSize (L .nodes))
+  n-tells = size-tells nodeWidth leastNodes mostNodes (L .nodes) (omega arith)
 
-  edges-right : ((i : ℕ) → i < edgeCount es → EdgeRule start (nodeCount ns) (nodeAt ns) (edgeAt es i))
-      → ltb (least (badEdge start (nodeCount ns) (nodeAt ns) (edgeAt es)) (edgeCount es)) (edgeCount es) ≡ false
-  edges-right f = nothing-bad _ (edgeCount es) (λ i h. tells-fails _ (bad-edge-tells i) (λ x. x (f i h)))
+  m-tells : Tells (edgesFit (L .edges)) (EdgesSize (L .edges))
+  m-tells = size-tells edgeWidth 0 mostEdges (L .edges) (omega arith)
 
-  refs-right : ((i : ℕ) → i < refCount rs → RefRule start (nodeCount ns) (nodeAt ns) (refAt rs i))
-      → ltb (least (badRef start (nodeCount ns) (nodeAt ns) (refAt rs)) (refCount rs)) (refCount rs) ≡ false
-  refs-right f = nothing-bad _ (refCount rs) (λ i h. tells-fails _ (bad-ref-tells i) (λ x. x (f i h)))
+  k-tells : Tells (refsFit (L .refs)) (RefsSize (L .refs))
+  k-tells = size-tells refWidth 0 mostRefs (L .refs) (omega arith)
 
-  -- what follows the sizes, and each of its answers
-  abbrev rest : Answer
-  rest = rowsSay start ns (nodeCount ns) es (edgeCount es) ⨾ refsSay start ns (nodeCount ns) rs (refCount rs)
+  abbrev badEdge : ℕ → Bool
+  badEdge = badRow false (L .start) (L .nodes .count) (nodeIn L) edgeWidth (L .edges .numbers)
 
-  sized : Sizes ns es rs → rest ≡ historySays start ns es rs
-  unfolding historySays allSizesSay sizesSay
-  sized s = simp (n-tells .1 (s .0), m-tells .1 (s .1), k-tells .1 (s .2))
+  abbrev badRef : ℕ → Bool
+  badRef = badRow true (L .start) (L .nodes .count) (nodeIn L) refWidth (L .refs .numbers)
 
-  start-is : start ≡ Now → Start ≡ rest
+  node-bad : (i : ℕ) → Tells (badNode (nodeIn L) i) (BadNode L i)
+  unfolding badNode
+  node-bad i = tells-not _ (node-tells i (nodeIn L i))
+
+  edge-bad : (i : ℕ) → Tells (badEdge i) (BadEdge L i)
+  unfolding badRow edgeAt
+  edge-bad i = tells-not _ (edge-tells (L .start) (L .nodes .count) (nodeIn L) (edgeIn L i))
+
+  ref-bad : (i : ℕ) → Tells (badRef i) (BadRef L i)
+  unfolding badRow refAt
+  ref-bad i = tells-not _ (ref-tells (L .start) (L .nodes .count) (nodeIn L) (refIn L i))
+
+  -- rows that obey their rules: the refusal that names them is passed over
+  abbrev NodesObey : Type 0
+  NodesObey = (i : ℕ) → i < L .nodes .count → NodeRule i (nodeIn L i)
+
+  abbrev EdgesObey : Type 0
+  EdgesObey = (i : ℕ) → i < L .edges .count → EdgeRule (L .start) (L .nodes .count) (nodeIn L) (edgeIn L i)
+
+  nodes-right : NodesObey → ltb (least (badNode (nodeIn L)) (L .nodes .count)) (L .nodes .count) ≡ false
+  nodes-right f = none-bad (badNode (nodeIn L)) (BadNode L) node-bad (L .nodes .count) (λ i h x. x (f i h))
+
+  edges-right : EdgesObey → ltb (least badEdge (L .edges .count)) (L .edges .count) ≡ false
+  edges-right f = none-bad badEdge (BadEdge L) edge-bad (L .edges .count) (λ i h x. x (f i h))
+
+  -- each answer in its turn
+  sized : Sizes L → rowsSay L ≡ historySays L
+  unfolding historySays sizesSay
+  sized s = simp (n-tells .1 (s .nodes), m-tells .1 (s .edges), k-tells .1 (s .refs))
+
+  start-is : L .start ≡ Now → Start ≡ rowsSay L
   unfolding rowsSay
-  start-is e = simp (eq-eqb start Now e)
+  start-is e = simp (eq-eqb (L .start) Now e)
 
-  node-is : {k : ℕ} → start ≢ Now → Smallest (BadNode start ns es rs) (nodeCount ns) k → Node k ≡ rest
+  module _ (ne : L .start ≢ Now) where
+    node-is : {k : ℕ} → Smallest (BadNode L) (L .nodes .count) k → Node k ≡ rowsSay L
+    unfolding rowsSay
+    node-is (l, h) =
+        simp (
+          ne-eqb (L .start) Now ne,
+          ← smallest-is (badNode (nodeIn L)) (BadNode L) node-bad (L .nodes .count) l,
+          lt-ltb _ _ h,
+        )
+
+    module _ (nodes : NodesObey) where
+      edge-is : {k : ℕ} → Smallest (BadEdge L) (L .edges .count) k → Edge k ≡ rowsSay L
+      unfolding rowsSay
+      edge-is (l, h) =
+          simp (
+            ne-eqb (L .start) Now ne,
+            nodes-right nodes,
+            ← smallest-is badEdge (BadEdge L) edge-bad (L .edges .count) l,
+            lt-ltb _ _ h,
+          )
+
+      module _ (edges : EdgesObey) where
+        reference-is : {k : ℕ} → Smallest (BadRef L) (L .refs .count) k → Reference k ≡ rowsSay L
+        unfolding rowsSay
+        reference-is (l, h) =
+            simp (
+              ne-eqb (L .start) Now ne,
+              nodes-right nodes,
+              edges-right edges,
+              ← smallest-is badRef (BadRef L) ref-bad (L .refs .count) l,
+              lt-ltb _ _ h,
+            )
+
+  nothing-is : Obeys L → passed ≡ rowsSay L
   unfolding rowsSay
-  node-is {k} ne (l, h) =
+  nothing-is o =
       simp (
-        ne-eqb start Now ne,
-        ← smallest-is (badNode (nodeAt ns)) (BadNode start ns es rs) bad-node-tells (nodeCount ns) k l,
-        lt-ltb _ _ h,
+        ne-eqb (L .start) Now (o .start-rule),
+        nodes-right (o .node-rule),
+        edges-right (o .edge-rule),
+        none-bad badRef (BadRef L) ref-bad (L .refs .count) (λ i h x. x (o .ref-rule i h)),
       )
 
-  edge-is : {k : ℕ} → start ≢ Now → ((i : ℕ) → i < nodeCount ns → NodeRule i (nodeAt ns i))
-      → Smallest (BadEdge start ns es rs) (edgeCount es) k
-      → Edge k ≡ rest
-  unfolding rowsSay
-  edge-is {k} ne f (l, h) =
-      simp (
-        ne-eqb start Now ne,
-        nodes-right f,
-        ← smallest-is (badEdge start (nodeCount ns) (nodeAt ns) (edgeAt es)) (BadEdge start ns es rs) bad-edge-tells
-            (edgeCount es) k l,
-        lt-ltb _ _ h,
-      )
-
-  -- where the rows obey their rules, the references alone are left to judge
-  ruled : Rows start ns (nodeCount ns) es (edgeCount es)
-      → refsSay start ns (nodeCount ns) rs (refCount rs) ≡ rest
-  unfolding rowsSay
-  ruled r = simp (ne-eqb start Now (r .start-rule), nodes-right (r .node-rule), edges-right (r .edge-rule))
-
-  reference-is : {k : ℕ} → Smallest (BadRef start ns es rs) (refCount rs) k
-      → Reference k ≡ refsSay start ns (nodeCount ns) rs (refCount rs)
-  unfolding refsSay
-  reference-is {k} (l, h) =
-      simp (
-        ← smallest-is (badRef start (nodeCount ns) (nodeAt ns) (refAt rs)) (BadRef start ns es rs) bad-ref-tells
-            (refCount rs) k l,
-        lt-ltb _ _ h,
-      )
-
-  nothing-is : ((k : ℕ) → k < refCount rs → RefRule start (nodeCount ns) (nodeAt ns) (refAt rs k))
-      → passed ≡ refsSay start ns (nodeCount ns) rs (refCount rs)
-  unfolding refsSay
-  nothing-is f = simp (refs-right f)
-
-  pub gives-is : {a : Answer} → Gives start ns es rs a → a ≡ historySays start ns es rs
-  unfolding historySays allSizesSay sizesSay
+  pub gives-is : {a : Answer} → Gives L a → a ≡ historySays L
+  unfolding historySays sizesSay
   gives-is (nodes-size f) = simp (tells-fails _ n-tells f)
   gives-is (edges-size n f) = simp (n-tells .1 n, tells-fails _ m-tells f)
   gives-is (refs-size n m f) = simp (n-tells .1 n, m-tells .1 m, tells-fails _ k-tells f)
   gives-is (start-now s e) = start-is e ∙ sized s
   gives-is (node s ne x) = node-is ne x ∙ sized s
   gives-is (edge s ne f x) = edge-is ne f x ∙ sized s
-  gives-is (reference s r x) = reference-is x ∙ ruled r ∙ sized s
-  gives-is (nothing o) =
-      let c = o .contained in
-      nothing-is (o .ref-rule) ∙ ruled (c .rows) ∙ sized (c .nodes-size, c .edges-size, o .refs-size)
+  gives-is (reference s ne f g x) = reference-is ne f g x ∙ sized s
+  gives-is (nothing o) = nothing-is o ∙ sized (o .sizes)
 
   -- one of them applies
   Some : Type 0
-  Some = (a : Answer) × Gives start ns es rs a
+  Some = (a : Answer) × Gives L a
 
-  some-ref : Sizes ns es rs → Rows start ns (nodeCount ns) es (edgeCount es) → Some
+  some-ref : Sizes L → L .start ≢ Now → NodesObey → EdgesObey → Some
   unfolding Some
-  some-ref s r =
+  some-ref s ne f g =
       ⊎-elim
       (λ all. (
         passed,
-        nothing (record {
-          contained = record { nodes-size = s .0; edges-size = s .1; rows = r };
-          refs-size = s .2;
-          ref-rule = all;
-        }),
+        nothing (record { sizes = s; start-rule = ne; node-rule = f; edge-rule = g; ref-rule = all }),
       ))
-      (λ (k, x). (Reference k, reference s r x))
-      (all-or-least (λ i. RefRule start (nodeCount ns) (nodeAt ns) (refAt rs i))
-      (λ i. tells-dec _ (ref-tells start (nodeCount ns) (nodeAt ns) (refAt rs i))) (refCount rs))
+      (λ (k, x). (Reference k, reference s ne f g x))
+      (all-or-least (λ i. RefRule (L .start) (L .nodes .count) (nodeIn L) (refIn L i))
+      (λ i. tells-dec _ (ref-tells (L .start) (L .nodes .count) (nodeIn L) (refIn L i))) (L .refs .count))
 
-  some-edge : Sizes ns es rs → start ≢ Now → ((i : ℕ) → i < nodeCount ns → NodeRule i (nodeAt ns i)) → Some
+  some-edge : Sizes L → L .start ≢ Now → NodesObey → Some
   unfolding Some
   some-edge s ne f =
       ⊎-elim
-      (λ all. some-ref s (record { start-rule = ne; node-rule = f; edge-rule = all }))
+      (some-ref s ne f)
       (λ (k, x). (Edge k, edge s ne f x))
-      (all-or-least (λ i. EdgeRule start (nodeCount ns) (nodeAt ns) (edgeAt es i))
-      (λ i. tells-dec _ (edge-tells start (nodeCount ns) (nodeAt ns) (edgeAt es i))) (edgeCount es))
+      (all-or-least (λ i. EdgeRule (L .start) (L .nodes .count) (nodeIn L) (edgeIn L i))
+      (λ i. tells-dec _ (edge-tells (L .start) (L .nodes .count) (nodeIn L) (edgeIn L i))) (L .edges .count))
 
-  some-start : Sizes ns es rs → Dec (start ≡ Now) → Some
+  some-start : Sizes L → Dec (L .start ≡ Now) → Some
   unfolding Some
   some-start s (yes e) = (Start, start-now s e)
   some-start s (no ne) =
       ⊎-elim
       (some-edge s ne)
       (λ (k, x). (Node k, node s ne x))
-      (all-or-least (λ i. NodeRule i (nodeAt ns i)) (λ i. tells-dec _ (node-tells i (nodeAt ns i))) (nodeCount ns))
+      (all-or-least (λ i. NodeRule i (nodeIn L i)) (λ i. tells-dec _ (node-tells i (nodeIn L i))) (L .nodes .count))
 
-  some-size : Dec (NodesSize ns) → Dec (EdgesSize es) → Dec (RefsSize rs) → Some
+  some-size : Dec (NodesSize (L .nodes)) → Dec (EdgesSize (L .edges)) → Dec (RefsSize (L .refs)) → Some
   unfolding Some
   some-size (no f) d e = (Size 0, nodes-size f)
   some-size (yes n) (no f) e = (Size 1, edges-size n f)
   some-size (yes n) (yes m) (no f) = (Size 2, refs-size n m f)
-  some-size (yes n) (yes m) (yes k) = some-start (n, m, k) (ℕ-discrete start Now)
+  some-size (yes n) (yes m) (yes k) = some-start (record { nodes = n; edges = m; refs = k }) (ℕ-discrete (L .start) Now)
 
-  pub gives-says : Gives start ns es rs (historySays start ns es rs)
+  pub gives-says : Gives L (historySays L)
   unfolding Some
   gives-says =
       let (a, g) = some-size (tells-dec _ n-tells) (tells-dec _ m-tells) (tells-dec _ k-tells) in
-      subst (Gives start ns es rs) (gives-is g) g
+      subst (Gives L) (gives-is g) g
 
--- without references, the three tables are judged as the two are
-module _ (start : ℕ) (ns es : List ℕ) where
-  abbrev rows : Answer
-  rows = rowsSay start ns (nodeCount ns) es (edgeCount es)
+  -- tables are not refused exactly if they obey the rules
+  passes : {a : Answer} → Gives L a → refuses a ≡ false → Obeys L
+  passes (nodes-size f) e = absurd (false≢true (sym e))
+  passes (edges-size n f) e = absurd (false≢true (sym e))
+  passes (refs-size n m f) e = absurd (false≢true (sym e))
+  passes (start-now s x) e = absurd (false≢true (sym e))
+  passes (node s ne x) e = absurd (false≢true (sym e))
+  passes (edge s ne f x) e = absurd (false≢true (sym e))
+  passes (reference s ne f g x) e = absurd (false≢true (sym e))
+  passes (nothing o) e = o
 
-  rows-passed : refuses rows ≡ false → rows ≡ passed
-  unfolding rowsSay
-  rows-passed e =
-      let r = rows-sound start ns (nodeCount ns) es (edgeCount es) e in
-      simp (
-        ne-eqb start Now (r .start-rule),
-        nodes-right start ns es [] (r .node-rule),
-        edges-right start ns es [] (r .edge-rule),
-      )
+  pub obeys-tells : (refuses (historySays L) ≡ false) ↔ Obeys L
+  obeys-tells = (passes gives-says, λ o. ap (λ a. refuses a) (sym (gives-is (nothing o))))
 
-  pub containment-history : containmentSays start ns es ≡ historySays start ns es []
-  unfolding containmentSays historySays allSizesSay refsSay sizeRule least
-  containment-history =
-      by-test (refuses (sizesSay ns es))
-      (λ t. simp t)
-      (λ f. by-test (refuses rows) (λ t. simp (f, t)) (λ g. simp (f, g) (rows-passed g)))
+  -- the sizes alone: tables whose sizes are passed over have them, and a refusal of them is that of the rules
+  pub sizes-pass : refuses (sizesSay (L .nodes) (L .edges) (L .refs)) ≡ false → Sizes L
+  unfolding sizesSay
+  sizes-pass e =
+      let (a, r) = both-pass (when (not (nodesFit (L .nodes))) (Size 0)) _ e in
+      let (b, c) = both-pass (when (not (edgesFit (L .edges))) (Size 1)) (when (not (refsFit (L .refs))) (Size 2)) r in
+      record {
+        nodes = n-tells .0 (not-false _ (when-passes (not (nodesFit (L .nodes))) (Size 0) refl a));
+        edges = m-tells .0 (not-false _ (when-passes (not (edgesFit (L .edges))) (Size 1) refl b));
+        refs = k-tells .0 (not-false _ (when-passes (not (refsFit (L .refs))) (Size 2) refl c));
+      }
+
+  pub sizes-refuse : refuses (sizesSay (L .nodes) (L .edges) (L .refs)) ≡ true
+      → sizesSay (L .nodes) (L .edges) (L .refs) ≡ historySays L
+  unfolding historySays
+  sizes-refuse t = rw t

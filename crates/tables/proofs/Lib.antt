@@ -1,5 +1,4 @@
 pub mod LabelLaws
-pub mod RuleLaws
-pub mod SaysLaws
-pub mod GivesLaws
 pub mod RowLaws
+pub mod RuleLaws
+pub mod GivesLaws

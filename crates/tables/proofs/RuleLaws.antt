@@ -1,13 +1,17 @@
 -- The tests of rows tell their rules. Assumes nothing.
 use mathlib.Core.Path.{_≡_}
 use mathlib.Core.Logic.{_≢_, _⊎_, inl, inr, ⊎-elim, Iff·trans}
+use mathlib.Core.Bool.{Bool, true, false, not, _&&_}
+use mathlib.Core.List.{List}
 use Prim.Native.Nat.{ℕ, _≤_, _<_}
 use native.Mathlib.Decide.{ℕ-discrete}
 use native.Mathlib.Omega.{arith}
 use Rattle.ground.specs.Tests.{Tells}
 use Rattle.ground.proofs.TestLaws.{tells-and, tells-or, tells-not, tells-le, tells-lt, tells-eq}
-use Rattle.tables.specs.Instants.{Now}
-use Rattle.tables.specs.Rows.{Node, Edge, Ref}
+use borrow.Author.Tests.{lt-ltb, le-ltb}
+use Rattle.tables.specs.declared.label.Label.{Label}
+use Rattle.tables.specs.Instants.{Now, instantOf, labelOf}
+use Rattle.tables.specs.Rows.{Node, Edge, Ref, numberAt, fromAt, toAt}
 use Rattle.tables.specs.Rules.{
   root,
   element,
@@ -20,13 +24,16 @@ use Rattle.tables.specs.Rules.{
   nodeRule,
   MayHold,
   mayHold,
+  mayRefer,
   LabelRule,
   labelRule,
   EdgeRule,
-  edgeRule,
   RefRule,
-  refRule,
+  mayJoin,
+  joinRule,
+  badRow,
 }
+use Rattle.tables.proofs.LabelLaws.{instant-end}
 
 pub node-tells : (i : ℕ) (x : Node) → Tells (nodeRule i x) (NodeRule i x)
 node-tells i x = Iff·trans parts (there, back)
@@ -76,31 +83,58 @@ holds-tells p c =
     (tells-and _ _ (tells-le element c) (tells-le c value)))
     (tells-and _ _ (tells-or _ _ (tells-eq p plainAttribute) (tells-eq p idAttribute)) (tells-eq c value))
 
+refers-tells : (a t : ℕ) → Tells (mayRefer a t) ((a ≡ refAttribute) × (t ≡ element))
+refers-tells a t = tells-and _ _ (tells-eq a refAttribute) (tells-eq t element)
+
 pub label-tells : (start from to : ℕ) → Tells (labelRule start from to) (LabelRule start from to)
 label-tells start from to =
     Iff·trans (tells-and _ _ (tells-and _ _ (tells-le start from) (tells-le from to)) (tells-not _ (tells-eq from Now)))
     (λ ((a, b), c). record { begins = a; ends = b; not-now = c }, λ r. ((r .begins, r .ends), r .not-now))
 
+-- the test of a row of either kind: two nodes of n, of kinds that may be joined, and a label
+join-tells : (refers : Bool) (May : ℕ → ℕ → Type 0) → ((a b : ℕ) → Tells (mayJoin refers a b) (May a b))
+    → (start n : ℕ) (node : ℕ → Node) (a b from to : ℕ)
+    → Tells (joinRule refers start n node a b from to)
+    (((a < n) × (b < n)) × (May (node a .kind) (node b .kind) × LabelRule start from to))
+join-tells refers May may start n node a b from to =
+    tells-and _ _ (tells-and _ _ (tells-lt a n) (tells-lt b n))
+    (tells-and _ _ (may (node a .kind) (node b .kind)) (label-tells start from to))
+
 module _ (start n : ℕ) (node : ℕ → Node) where
-  pub edge-tells : (e : Edge) → Tells (edgeRule start n node e) (EdgeRule start n node e)
+  pub edge-tells : (e : Edge)
+      → Tells (joinRule false start n node (e .parent) (e .child) (e .from) (e .to)) (EdgeRule start n node e)
   edge-tells e =
-      Iff·trans
-      (tells-and _ _ (tells-and _ _ (tells-lt (e .parent) n) (tells-lt (e .child) n))
-      (tells-and _ _ (holds-tells (node (e .parent) .kind) (node (e .child) .kind))
-      (label-tells start (e .from) (e .to)))) (
+      Iff·trans (join-tells false MayHold holds-tells start n node (e .parent) (e .child) (e .from) (e .to)) (
         λ ((p, c), (a, l)). record { parent = p; child = c; allowed = a; label = l },
-        λ r.
-            ((r .parent, r .child), (r .allowed, r .label)),
+        λ r. ((r .parent, r .child), (r .allowed, r .label)),
       )
 
-  pub ref-tells : (r : Ref) → Tells (refRule start n node r) (RefRule start n node r)
+  pub ref-tells : (r : Ref)
+      → Tells (joinRule true start n node (r .attribute) (r .target) (r .from) (r .to)) (RefRule start n node r)
   ref-tells r =
       Iff·trans
-      (tells-and _ _ (tells-and _ _ (tells-lt (r .attribute) n) (tells-lt (r .target) n))
-      (tells-and _ _ (tells-and _ _ (tells-eq (node (r .attribute) .kind) refAttribute)
-      (tells-eq (node (r .target) .kind) element))
-      (label-tells start (r .from) (r .to)))) (
+      (join-tells true (λ a t. (a ≡ refAttribute) × (t ≡ element)) refers-tells start n node (r .attribute) (r .target)
+      (r .from) (r .to)) (
         λ ((a, t), ((ka, kt), l)). record
             { attribute = a; target = t; attribute-kind = ka; target-kind = kt; label = l },
         λ x. ((x .attribute, x .target), ((x .attribute-kind, x .target-kind), x .label)),
       )
+
+-- the test of row i, by its nodes, its label, and the two answers that it asks for
+module _ (refers : Bool) (start n : ℕ) (node : ℕ → Node) (w : ℕ) (xs : List ℕ) (i : ℕ) where
+  module _ {a : ℕ} (ea : a ≡ numberAt w xs i 0) where
+    pub first-out : n ≤ a → true ≡ badRow refers start n node w xs i
+    unfolding badRow
+    first-out h = simp (← ea, le-ltb _ _ h)
+
+    module _ (la : a < n) {b : ℕ} (eb : b ≡ numberAt w xs i 1) where
+      pub second-out : n ≤ b → true ≡ badRow refers start n node w xs i
+      unfolding badRow
+      second-out h = simp (← ea, ← eb, lt-ltb _ _ la, le-ltb _ _ h)
+
+      pub both-in : b < n → {x y : ℕ} → x ≡ node a .kind → y ≡ node b .kind → {may : Bool} → may ≡ mayJoin refers x y
+          → {l : Label} → l ≡ labelOf (fromAt w xs i) (toAt w xs i) → {ruled : Bool}
+          → ruled ≡ labelRule start (l .from) (instantOf (l .end))
+          → not (may && ruled) ≡ badRow refers start n node w xs i
+      unfolding badRow
+      both-in lb ex ey em el er = simp (← ea, ← eb, lt-ltb _ _ la, lt-ltb _ _ lb, em, ex, ey, er, el, instant-end)

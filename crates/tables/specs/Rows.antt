@@ -2,15 +2,20 @@
 --   Node, Edge, Ref                  a node row, a containment row, a reference row
 --   nodeWidth, edgeWidth, refWidth   how many numbers a row has
 --   noNode                           the number that stands for no node
---   numberAt                         number k of row i
+--   numberAt                         number k of row i; fromAt, toAt: its last two, the label
 --   nodeAt, edgeAt, refAt            row i of a table
 --   HasNodes, HasEdges, HasRefs      the table has so many whole rows, or more; HasRows: where rows have w numbers
---   nodeCount, edgeCount, refCount   how many whole rows a table has
+--   Side, sideOf                     the attribute of a reference, or its target
 --   withEnd, setEnd                  a containment row with another end, and a table whose row i has another end
+--   setRow                           a table whose row i has other numbers; setEdge: a containment table, and
+--                                    edgeNumbers, a containment row's numbers
 -- Assumes nothing.
-use mathlib.Core.List.{List}
-use Prim.Native.Nat.{ℕ, _+_, _*_, _/_, _≤_}
+use mathlib.Core.List.{List, [], _∷_}
+use Prim.Native.Nat.{ℕ, _+_, _-_, _*_, _≤_}
 use lib.ListN.{length, getD, set}
+use lib.Seq.{sets}
+use Rattle.tables.specs.declared.rows.Side.{Side}
+use Rattle.tables.specs.declared.rows.Side.the-variants.{Attribute, Target}
 
 -- [01:Instants and tables] "Node row, 3 numbers: kind, label, value."
 pub record Node : Type 0 where
@@ -50,6 +55,13 @@ noNode = 4294967295
 abbrev pub numberAt : ℕ → List ℕ → ℕ → ℕ → ℕ
 numberAt w xs i k = getD xs (i * w + k) 0
 
+-- [01:Instants and tables] a row of either kind ends with "from, to"
+abbrev pub fromAt : ℕ → List ℕ → ℕ → ℕ
+fromAt w xs i = numberAt w xs i (w - 2)
+
+abbrev pub toAt : ℕ → List ℕ → ℕ → ℕ
+toAt w xs i = numberAt w xs i (w - 1)
+
 unfoldable pub nodeAt : List ℕ → ℕ → Node
 nodeAt ns i =
     record { kind = numberAt nodeWidth ns i 0; label = numberAt nodeWidth ns i 1; value = numberAt nodeWidth ns i 2 }
@@ -72,6 +84,10 @@ refAt rs i =
       to = numberAt refWidth rs i 3;
     }
 
+abbrev pub sideOf : Side → Ref → ℕ
+sideOf Attribute r = r .attribute
+sideOf Target r = r .target
+
 abbrev pub HasRows : ℕ → List ℕ → ℕ → Type 0
 HasRows w xs m = m * w ≤ length xs
 
@@ -84,17 +100,17 @@ HasEdges = HasRows edgeWidth
 abbrev pub HasRefs : List ℕ → ℕ → Type 0
 HasRefs = HasRows refWidth
 
-abbrev pub nodeCount : List ℕ → ℕ
-nodeCount ns = length ns / nodeWidth
-
-abbrev pub edgeCount : List ℕ → ℕ
-edgeCount es = length es / edgeWidth
-
-abbrev pub refCount : List ℕ → ℕ
-refCount rs = length rs / refWidth
-
 abbrev pub withEnd : Edge → ℕ → Edge
 withEnd e to = record { parent = e .parent; child = e .child; from = e .from; to = to }
 
 unfoldable pub setEnd : List ℕ → ℕ → ℕ → List ℕ
 setEnd es i to = set es (i * edgeWidth + 3) to
+
+unfoldable pub setRow : ℕ → List ℕ → ℕ → List ℕ → List ℕ
+setRow w xs i ns = sets xs (i * w) ns
+
+abbrev pub edgeNumbers : Edge → List ℕ
+edgeNumbers e = e .parent ∷ e .child ∷ e .from ∷ e .to ∷ []
+
+abbrev pub setEdge : List ℕ → ℕ → Edge → List ℕ
+setEdge es i e = setRow edgeWidth es i (edgeNumbers e)

@@ -1,60 +1,24 @@
--- The sizes of tables and the rules of rows, in the document's words, and the test of each. proofs/RuleLaws.antt ties
--- the two.
---   leastNodes, mostNodes, mostEdges, mostRefs   how many rows a table may have
---   SizeRule, sizeRule    so many numbers are whole rows, neither too few nor too many; the test
---   NodesSize, EdgesSize, RefsSize   the size of a table is right; Sizes: the sizes of all three are
+-- The rules of rows, in the document's words, and the test of each. proofs/RuleLaws.antt ties the two.
 --   root, element, plainAttribute, idAttribute, refAttribute, value   the kinds
 --   mostLabel             the largest label
 --   NodeRule, nodeRule    node row i is right; the test. rootRule: its kind is that of its place; valueRule, otherRule:
 --                         its label and value are those of kind 5, of the rest
 --   MayHold, mayHold      a parent of one kind may hold a child of another; the test. holdsAny: as the root or an
 --                         element; holdsValue: as an attribute
+--   mayRefer              an attribute of one kind may refer to a target of another: the test
 --   LabelRule, labelRule  the label of a row of either kind is right; the test
---   EdgeRule, edgeRule    a containment row is right; the test
---   RefRule, refRule      a reference row is right; the test. mayRefer: of the two kinds
---   badNode, badEdge, badRef   row i breaks its rule
+--   EdgeRule, RefRule     a containment row is right, and a reference row
+--   mayJoin, joinRule     the test of both: two nodes that may be joined, and a label
+--   badNode, badRow       row i breaks its rule
 -- Assumes nothing.
 use mathlib.Core.Path.{_≡_}
 use mathlib.Core.Logic.{_≢_, _⊎_}
-use mathlib.Core.Bool.{Bool, not, _&&_, _||_}
+use mathlib.Core.Bool.{Bool, true, false, not, _&&_, _||_}
 use mathlib.Core.List.{List}
-use Prim.Native.Nat.{ℕ, _*_, _/_, _%_, _≤_, _<_}
+use Prim.Native.Nat.{ℕ, _≤_, _<_}
 use lib.Dec.{leb, ltb, eqb}
-use lib.ListN.{length}
 use Rattle.tables.specs.Instants.{Now}
-use Rattle.tables.specs.Rows.{Node, Edge, Ref, nodeWidth, edgeWidth, refWidth}
-
--- [01:Instants and tables] "Sizes: 1 to 1,024 nodes, 0 to 2,048 containment rows, 0 to 1,024 reference rows."
-abbrev pub leastNodes : ℕ
-leastNodes = 1
-
-abbrev pub mostNodes : ℕ
-mostNodes = 1024
-
-abbrev pub mostEdges : ℕ
-mostEdges = 2048
-
-abbrev pub mostRefs : ℕ
-mostRefs = 1024
-
--- so many numbers are whole rows of w numbers, and the rows are at least `least` and at most `most`
-abbrev pub SizeRule : ℕ → ℕ → ℕ → ℕ → Type 0
-SizeRule w least most numbers = (rows : ℕ) × (numbers ≡ rows * w) × (least ≤ rows) × (rows ≤ most)
-
-unfoldable pub sizeRule : ℕ → ℕ → ℕ → ℕ → Bool
-sizeRule w least most numbers = eqb (numbers % w) 0 && leb least (numbers / w) && leb (numbers / w) most
-
-abbrev pub NodesSize : List ℕ → Type 0
-NodesSize ns = SizeRule nodeWidth leastNodes mostNodes (length ns)
-
-abbrev pub EdgesSize : List ℕ → Type 0
-EdgesSize es = SizeRule edgeWidth 0 mostEdges (length es)
-
-abbrev pub RefsSize : List ℕ → Type 0
-RefsSize rs = SizeRule refWidth 0 mostRefs (length rs)
-
-abbrev pub Sizes : List ℕ → List ℕ → List ℕ → Type 0
-Sizes ns es rs = NodesSize ns × EdgesSize es × RefsSize rs
+use Rattle.tables.specs.Rows.{Node, Edge, Ref, numberAt, fromAt, toAt}
 
 -- [01:Instants and tables] "Kinds: 0 root, 1 element, 2 plain attribute, 3 ID attribute, 4 REF attribute, 5 value."
 abbrev pub root : ℕ
@@ -136,12 +100,6 @@ pub record EdgeRule (start n : ℕ) (node : ℕ → Node) (e : Edge) : Type 0 wh
   pub allowed : MayHold (node (e .parent) .kind) (node (e .child) .kind)
   pub label : LabelRule start (e .from) (e .to)
 
-abbrev pub edgeRule : ℕ → ℕ → (ℕ → Node) → Edge → Bool
-edgeRule start n node e =
-    ltb (e .parent) n
-    && ltb (e .child) n
-    && (mayHold (node (e .parent) .kind) (node (e .child) .kind) && labelRule start (e .from) (e .to))
-
 -- [01:Instants and tables] "Reference row, 4 numbers: attribute (kind 4), target (kind 1), from, to."
 pub record RefRule (start n : ℕ) (node : ℕ → Node) (r : Ref) : Type 0 where
   pub attribute : r .attribute < n
@@ -153,18 +111,20 @@ pub record RefRule (start n : ℕ) (node : ℕ → Node) (r : Ref) : Type 0 wher
 abbrev pub mayRefer : ℕ → ℕ → Bool
 mayRefer a t = eqb a refAttribute && eqb t element
 
-abbrev pub refRule : ℕ → ℕ → (ℕ → Node) → Ref → Bool
-refRule start n node r =
-    ltb (r .attribute) n
-    && ltb (r .target) n
-    && (mayRefer (node (r .attribute) .kind) (node (r .target) .kind) && labelRule start (r .from) (r .to))
+-- a row of either kind joins the nodes a and b of n: it refers, or it holds
+abbrev pub mayJoin : Bool → ℕ → ℕ → Bool
+mayJoin true = mayRefer
+mayJoin false = mayHold
+
+abbrev pub joinRule : Bool → ℕ → ℕ → (ℕ → Node) → ℕ → ℕ → ℕ → ℕ → Bool
+joinRule refers start n node a b from to =
+    ltb a n && ltb b n && (mayJoin refers (node a .kind) (node b .kind) && labelRule start from to)
 
 -- row i breaks its rule
 unfoldable pub badNode : (ℕ → Node) → ℕ → Bool
 badNode node i = not (nodeRule i (node i))
 
-unfoldable pub badEdge : ℕ → ℕ → (ℕ → Node) → (ℕ → Edge) → ℕ → Bool
-badEdge start n node edge i = not (edgeRule start n node (edge i))
-
-unfoldable pub badRef : ℕ → ℕ → (ℕ → Node) → (ℕ → Ref) → ℕ → Bool
-badRef start n node ref i = not (refRule start n node (ref i))
+-- of a table whose rows have w numbers, and refer or hold
+unfoldable pub badRow : Bool → ℕ → ℕ → (ℕ → Node) → ℕ → List ℕ → ℕ → Bool
+badRow refers start n node w xs i =
+    not (joinRule refers start n node (numberAt w xs i 0) (numberAt w xs i 1) (fromAt w xs i) (toAt w xs i))

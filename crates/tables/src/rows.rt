@@ -2,7 +2,7 @@
 ghost use mathlib.Core.Path.{_≡_};
 ghost use Prim.Native.Nat.{_+_, _<_};
 ghost use Rattle.tables.specs.Instants.{during, labelOf};
-ghost use Rattle.tables.specs.Rows.{nodeCount, edgeCount, refCount, numberAt, nodeAt, edgeAt, refAt, setEnd};
+ghost use Rattle.tables.specs.Rows.{numberAt, fromAt, toAt, nodeAt, edgeAt, refAt, sideOf, setEnd, setEdge};
 ghost use Rattle.tables.specs.Rows.{HasRows, HasNodes, HasEdges, HasRefs};
 use super::label::Label;
 
@@ -15,30 +15,29 @@ pub const REF_WIDTH: usize = 4;
 // The number that stands for no node.
 pub const NO_NODE: u32 = 4294967295;
 
-pub fn node_count(nodes: &[u32]) -> usize
-    ensures { λ r. ⌜ r ≡ nodeCount (now (nodes .entry)) ⌝ }
-{
-    nodes.len() / NODE_WIDTH
-}
-
-pub fn edge_count(edges: &[u32]) -> usize
-    ensures { λ r. ⌜ r ≡ edgeCount (now (edges .entry)) ⌝ }
-{
-    edges.len() / EDGE_WIDTH
-}
-
-pub fn ref_count(refs: &[u32]) -> usize
-    ensures { λ r. ⌜ r ≡ refCount (now (refs .entry)) ⌝ }
-{
-    refs.len() / REF_WIDTH
+// The two ends of a reference.
+pub enum Side {
+    Attribute,
+    Target,
 }
 
 // Number k of row i, where rows have `width` numbers.
-fn number_at(rows: &[u32], width: usize, i: usize, k: usize) -> u32
+pub fn number_at(rows: &[u32], width: usize, i: usize, k: usize) -> u32
     requires { ⌜ (k < width) × HasRows width (now rows) (i + 1) ⌝ }
     ensures { λ r. ⌜ r ≡ numberAt width (now (rows .entry)) i k ⌝ }
 {
     rows[i * width + k]
+}
+
+// A row of either kind ends with its label.
+pub fn label_at(rows: &[u32], width: usize, i: usize) -> Label
+    requires { ⌜ (1 < width) × HasRows width (now rows) (i + 1) ⌝ }
+    ensures { λ r. ⌜ r ≡ labelOf (fromAt width (now (rows .entry)) i) (toAt width (now (rows .entry)) i) ⌝ }
+{
+    Label::of(
+        number_at(rows, width, i, width - 2),
+        number_at(rows, width, i, width - 1),
+    )
 }
 
 pub fn node_kind(nodes: &[u32], i: usize) -> u32
@@ -94,7 +93,20 @@ pub fn edge_label(edges: &[u32], i: usize) -> Label
     requires { ⌜ HasEdges (now edges) (i + 1) ⌝ }
     ensures { λ r. ⌜ r ≡ labelOf (edgeAt (now (edges .entry)) i .from) (edgeAt (now (edges .entry)) i .to) ⌝ }
 {
-    Label::of(edge_from(edges, i), edge_to(edges, i))
+    label_at(edges, EDGE_WIDTH, i)
+}
+
+// Stores a whole row.
+pub fn set_edge(edges: &mut [u32], i: usize, parent: u32, child: u32, from: u32, to: u32)
+    requires { ⌜ HasEdges (now edges) (i + 1) ⌝ }
+    ensures { λ _. ⌜ now (edges .exit) ≡ setEdge (now (edges .entry)) i
+        (record { parent = parent; child = child; from = from; to = to }) ⌝ }
+{
+    let row = i * EDGE_WIDTH;
+    edges[row] = parent;
+    edges[row + 1] = child;
+    edges[row + 2] = from;
+    edges[row + 3] = to;
 }
 
 pub fn set_edge_end(edges: &mut [u32], i: usize, to: u32)
@@ -111,28 +123,21 @@ pub fn edge_in_force(edges: &[u32], i: usize, t: u32) -> bool
     edge_label(edges, i).in_force(t)
 }
 
-pub fn ref_attribute(refs: &[u32], i: usize) -> u32
+pub fn ref_side(refs: &[u32], i: usize, side: Side) -> u32
     requires { ⌜ HasRefs (now refs) (i + 1) ⌝ }
-    ensures { λ r. ⌜ r ≡ refAt (now (refs .entry)) i .attribute ⌝ }
+    ensures { λ r. ⌜ r ≡ sideOf side (refAt (now (refs .entry)) i) ⌝ }
 {
-    number_at(refs, REF_WIDTH, i, 0)
-}
-
-pub fn ref_target(refs: &[u32], i: usize) -> u32
-    requires { ⌜ HasRefs (now refs) (i + 1) ⌝ }
-    ensures { λ r. ⌜ r ≡ refAt (now (refs .entry)) i .target ⌝ }
-{
-    number_at(refs, REF_WIDTH, i, 1)
+    match side {
+        Side::Attribute => number_at(refs, REF_WIDTH, i, 0),
+        Side::Target => number_at(refs, REF_WIDTH, i, 1),
+    }
 }
 
 pub fn ref_label(refs: &[u32], i: usize) -> Label
     requires { ⌜ HasRefs (now refs) (i + 1) ⌝ }
     ensures { λ r. ⌜ r ≡ labelOf (refAt (now (refs .entry)) i .from) (refAt (now (refs .entry)) i .to) ⌝ }
 {
-    Label::of(
-        number_at(refs, REF_WIDTH, i, 2),
-        number_at(refs, REF_WIDTH, i, 3),
-    )
+    label_at(refs, REF_WIDTH, i)
 }
 
 pub fn ref_in_force(refs: &[u32], i: usize, t: u32) -> bool

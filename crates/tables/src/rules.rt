@@ -3,19 +3,15 @@ ghost use mathlib.Core.Path.{_≡_};
 ghost use Prim.Native.Nat.{_+_, _<_};
 ghost use Rattle.ground.specs.Least.{least};
 ghost use Rattle.tables.specs.Instants.{instantOf};
-ghost use Rattle.tables.specs.Rows.{nodeAt, edgeAt, refAt, HasNodes, HasEdges, HasRefs};
-ghost use Rattle.tables.specs.Rules.{sizeRule, nodeRule, mayHold, mayRefer, labelRule, badNode, badEdge, badRef};
+ghost use Rattle.tables.specs.Rows.{nodeAt, HasRows, HasNodes};
+ghost use Rattle.tables.specs.Rules.{nodeRule, mayHold, mayRefer, mayJoin, labelRule, badNode, badRow};
 use super::label::Label;
 use super::label::NOW;
-use super::rows::edge_child;
-use super::rows::edge_label;
-use super::rows::edge_parent;
+use super::rows::label_at;
 use super::rows::node_kind;
 use super::rows::node_label;
 use super::rows::node_value;
-use super::rows::ref_attribute;
-use super::rows::ref_label;
-use super::rows::ref_target;
+use super::rows::number_at;
 
 // The kinds of nodes.
 pub const ROOT: u32 = 0;
@@ -32,13 +28,10 @@ pub const VALUE: u32 = 5;
 
 const MOST_LABEL: u32 = 65535;
 
-// So many numbers are whole rows of `width`, at least `least` and at most `most` of them.
-pub fn size_rule(width: usize, least: usize, most: usize, numbers: usize) -> bool
-    requires { ⌜ 0 < width ⌝ }
-    ensures { λ r. ⌜ r ≡ sizeRule width least most numbers ⌝ }
-{
-    (numbers % width == 0) & (least <= numbers / width) & (numbers / width <= most)
-}
+// What the rows of a table do.
+pub const HOLDS: bool = false;
+
+pub const REFERS: bool = true;
 
 fn node_rule(i: usize, kind: u32, label: u32, value: u32) -> bool
     ensures { λ r. ⌜ r ≡ nodeRule i (record { kind = kind; label = label; value = value }) ⌝ }
@@ -81,36 +74,40 @@ fn bad_node(nodes: &[u32], i: usize) -> bool
     )
 }
 
-fn bad_edge(start: u32, nodes: &[u32], n: usize, edges: &[u32], i: usize) -> bool
-    requires { ⌜ HasNodes (now nodes) n × HasEdges (now edges) (i + 1) ⌝ }
-    ensures { λ r. ⌜ r ≡ badEdge start n (nodeAt (now (nodes .entry))) (edgeAt (now (edges .entry))) i ⌝ }
+// Whether a row of either kind may join nodes of these kinds.
+fn may_join(refers: bool, a: u32, b: u32) -> bool
+    ensures { λ r. ⌜ r ≡ mayJoin refers a b ⌝ }
 {
-    let p = edge_parent(edges, i) as usize;
-    let c = edge_child(edges, i) as usize;
-    let label = edge_label(edges, i);
-    if n <= p {
-        return true;
+    if refers {
+        may_refer(a, b)
+    } else {
+        may_hold(a, b)
     }
-    if n <= c {
-        return true;
-    }
-    !(may_hold(node_kind(nodes, p), node_kind(nodes, c)) & label_rule(start, label))
 }
 
-fn bad_ref(start: u32, nodes: &[u32], n: usize, refs: &[u32], i: usize) -> bool
-    requires { ⌜ HasNodes (now nodes) n × HasRefs (now refs) (i + 1) ⌝ }
-    ensures { λ r. ⌜ r ≡ badRef start n (nodeAt (now (nodes .entry))) (refAt (now (refs .entry))) i ⌝ }
+// Whether row i of a table whose rows refer, or else hold, breaks its rule.
+fn bad_row(
+    refers: bool,
+    start: u32,
+    nodes: &[u32],
+    n: usize,
+    rows: &[u32],
+    width: usize,
+    i: usize,
+) -> bool
+    requires { ⌜ HasNodes (now nodes) n × (1 < width) × HasRows width (now rows) (i + 1) ⌝ }
+    ensures { λ r. ⌜ r ≡ badRow refers start n (nodeAt (now (nodes .entry))) width (now (rows .entry)) i ⌝ }
 {
-    let a = ref_attribute(refs, i) as usize;
-    let t = ref_target(refs, i) as usize;
-    let label = ref_label(refs, i);
+    let a = number_at(rows, width, i, 0) as usize;
+    let b = number_at(rows, width, i, 1) as usize;
+    let label = label_at(rows, width, i);
     if n <= a {
         return true;
     }
-    if n <= t {
+    if n <= b {
         return true;
     }
-    !(may_refer(node_kind(nodes, a), node_kind(nodes, t)) & label_rule(start, label))
+    !(may_join(refers, node_kind(nodes, a), node_kind(nodes, b)) & label_rule(start, label))
 }
 
 // The smallest of n node rows that breaks its rule, or n.
@@ -128,32 +125,25 @@ pub fn first_bad_node(nodes: &[u32], n: usize) -> usize
     n
 }
 
-// The smallest of m containment rows that breaks its rule, or m.
-pub fn first_bad_edge(start: u32, nodes: &[u32], n: usize, edges: &[u32], m: usize) -> usize
-    requires { ⌜ HasNodes (now nodes) n × HasEdges (now edges) m ⌝ }
-    ensures { λ r. ⌜ r ≡ least (badEdge start n (nodeAt (now (nodes .entry))) (edgeAt (now (edges .entry)))) m ⌝ }
+// The smallest of m rows that breaks its rule, or m, in a table whose rows refer, or else hold.
+pub fn first_bad_row(
+    refers: bool,
+    start: u32,
+    nodes: &[u32],
+    n: usize,
+    rows: &[u32],
+    width: usize,
+    m: usize,
+) -> usize
+    requires { ⌜ HasNodes (now nodes) n × (1 < width) × HasRows width (now rows) m ⌝ }
+    ensures { λ r. ⌜ r ≡ least (badRow refers start n (nodeAt (now (nodes .entry))) width (now (rows .entry))) m ⌝ }
 {
     let mut i = 0;
     while i < m {
-        if bad_edge(start, nodes, n, edges, i) {
+        if bad_row(refers, start, nodes, n, rows, width, i) {
             return i;
         }
         i += 1;
     }
     m
-}
-
-// The smallest of k reference rows that breaks its rule, or k.
-pub fn first_bad_ref(start: u32, nodes: &[u32], n: usize, refs: &[u32], k: usize) -> usize
-    requires { ⌜ HasNodes (now nodes) n × HasRefs (now refs) k ⌝ }
-    ensures { λ r. ⌜ r ≡ least (badRef start n (nodeAt (now (nodes .entry))) (refAt (now (refs .entry)))) k ⌝ }
-{
-    let mut i = 0;
-    while i < k {
-        if bad_ref(start, nodes, n, refs, i) {
-            return i;
-        }
-        i += 1;
-    }
-    k
 }

@@ -1,18 +1,14 @@
+use Rattle.tables.specs.Rows.{edgeAt}
 use borrow.Author.Needs.{needs}
 use Rattle.tables.proofs.rows.edge_label.Statement.{statement}
 use Rattle.tables.proofs.rows.edge_label.Tie as tie
 
-edge-from-requires : tie.Need-edge-from-requires
-edge-from-requires c κs = search needs
-
-edge-to-requires : tie.Need-edge-to-requires
-edge-to-requires c κs = search needs
-
-of-requires : tie.Need-of-requires
-of-requires c κs = search needs
+label-at-requires : tie.Need-label-at-requires
+label-at-requires c κs = search needs
 
 returns : tie.Need-returns
-returns c = cc
+unfolding edgeAt
+returns c = c .label-at .ensures
 
 pub edge-label-spec : {M : Type 1} → statement M
-edge-label-spec = tie.close (tie.spec edge-from-requires edge-to-requires of-requires returns)
+edge-label-spec = tie.close (tie.spec label-at-requires returns)
