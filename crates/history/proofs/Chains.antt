@@ -10,7 +10,7 @@ use Rattle.ground.proofs.LeastLaws.{not-le→lt, any-dec}
 use Rattle.ground.proofs.Pigeonhole.{pigeonhole}
 use Rattle.tables.specs.Instants.{During}
 use Rattle.tables.specs.Rows.{Edge}
-use Rattle.history.specs.Faults.{Into, Touched, Present, Chain, Cycle, Below}
+use Rattle.history.specs.Faults.{Into, Touched, Present, Chain, Cycle, NodesBelow}
 
 module _ (m : ℕ) (E : ℕ → Edge) (t : ℕ) where
   -- chains are joined at a node
@@ -58,7 +58,7 @@ module _ (m : ℕ) (E : ℕ → Edge) (t : ℕ) where
   stretch a n (r ∷ rs) (suc i) zero h l p = absurd (omega arith)
   stretch a n (r ∷ rs) (suc i) (suc j) h l p = stretch a (E r .parent) rs i j (omega arith) (omega arith) (p .1)
 
-  module _ (N : ℕ) (b : Below m E N) where
+  module _ (N : ℕ) (b : NodesBelow m E N) where
     node-below : (a n : ℕ) (is : List ℕ) (k : ℕ) → n < N → Chain m E t a n is → node n is k < N
     unfolding node
     node-below a n [] k h p = h
@@ -89,7 +89,7 @@ module _ (m : ℕ) (E : ℕ → Edge) (t : ℕ) where
   rest a n (i ∷ is) (suc k) p = rest a (E i .parent) is k (p .1)
 
   -- a chain can be cut to fewer than N rows
-  module _ (N : ℕ) (b : Below m E N) where
+  module _ (N : ℕ) (b : NodesBelow m E N) where
     cut : (a n : ℕ) (is : List ℕ) → n < N → N ≤ length is → Chain m E t a n is
         → (js : List ℕ) × (length js < length is) × Chain m E t a n js
     cut a n is h l p =

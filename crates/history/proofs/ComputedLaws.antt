@@ -11,13 +11,13 @@ use Rattle.ground.specs.Tests.{Tells}
 use Rattle.ground.specs.Least.{Any, any}
 use Rattle.ground.proofs.TestLaws.{tells-and, tells-or, tells-not, tells-le, tells-lt, tells-eq}
 use Rattle.ground.proofs.LeastLaws.{any-tells}
-use Rattle.answers.specs.declared.Fault.{Fault}
-use Rattle.answers.specs.declared.Fault.the-variants as fault
+use Rattle.tables.specs.declared.rows.Side.{Side}
 use Rattle.tables.specs.Instants.{During}
-use Rattle.tables.specs.Rows.{Edge}
+use Rattle.tables.specs.Rows.{Edge, sideOf}
 use Rattle.tables.proofs.LabelLaws.{during-tells}
-use Rattle.history.specs.History.{History, Ruled}
+use Rattle.history.specs.History.{History}
 use Rattle.history.specs.Faults.{
+  Leads,
   Into,
   Out,
   Ended,
@@ -29,18 +29,9 @@ use Rattle.history.specs.Faults.{
   Gap,
   Outside,
   Cycle,
-  Below,
+  NodesBelow,
   Refers,
-  Here,
-  Late,
-  Dangling,
-  Holds,
-  overlap,
-  gap,
-  outside,
-  cycle,
-  late,
-  dangling,
+  Astray,
 }
 use Rattle.history.specs.Computed.{
   isInto,
@@ -54,27 +45,24 @@ use Rattle.history.specs.Computed.{
   isOutside,
   cycles,
   refers,
-  isHere,
-  holds,
+  isAstray,
 }
 use Rattle.history.proofs.Chains.{shorten}
-use Rattle.history.proofs.RuledLaws.{ruled-below}
 
 module _ (m : ℕ) (E : ℕ → Edge) (t : ℕ) where
-  -- row i leads into n and is in force, whether or not it is one of the m
-  abbrev Ins : ℕ → ℕ → Type 0
-  Ins n i = (E i .child ≡ n) × During (E i .from) (E i .to) t
+  pub leads-tells : (n i : ℕ) → Tells (isInto m E t n i) (Leads E t n i)
+  leads-tells n i = tells-and _ _ (tells-eq (E i .child) n) (during-tells (E i .from) (E i .to) t)
 
-  ins-tells : (n i : ℕ) → Tells (isInto m E t n i) (Ins n i)
-  ins-tells n i = tells-and _ _ (tells-eq (E i .child) n) (during-tells (E i .from) (E i .to) t)
+  pub leads-into : (n i : ℕ) → i < m → Leads E t n i → Into m E t n i
+  leads-into n i h x = record { row = h; into = x .0; force = x .1 }
 
-  make-into : (n i : ℕ) → i < m → Ins n i → Into m E t n i
-  make-into n i h x = record { row = h; into = x .0; force = x .1 }
+  pub into-leads : (n i : ℕ) → Into m E t n i → Leads E t n i
+  into-leads n i p = (p .into, p .force)
 
-  into-tells : (n : ℕ) → Tells (any (isInto m E t n) m) ((i : ℕ) × Into m E t n i)
+  pub into-tells : (n : ℕ) → Tells (any (isInto m E t n) m) ((i : ℕ) × Into m E t n i)
   into-tells n =
-      Iff·trans (any-tells (isInto m E t n) (Ins n) (ins-tells n) m)
-      (λ s. (s .0, make-into n (s .0) (s .1) (s .2)), λ s. (s .0, s .1 .row, (s .1 .into, s .1 .force)))
+      Iff·trans (any-tells (isInto m E t n) (Leads E t n) (leads-tells n) m)
+      (λ s. (s .0, leads-into n (s .0) (s .1) (s .2)), λ s. (s .0, s .1 .row, (s .1 .into, s .1 .force)))
 
   out-tells : (n : ℕ) → Tells (any (isOut m E t n) m) ((i : ℕ) × Out m E t n i)
   out-tells n =
@@ -122,9 +110,9 @@ module _ (m : ℕ) (E : ℕ → Edge) (t : ℕ) where
   pub overlap-tells : (n : ℕ) → Tells (overlaps m E t n) (Overlap m E t n)
   overlap-tells n =
       Iff·trans
-      (any-tells _ (λ j. Ins n j × Any (Ins n) j)
-      (λ j. tells-and _ _ (ins-tells n j) (any-tells _ (Ins n) (ins-tells n) j)) m) (
-        λ (j, h, (q, (i, g, p))). (i, j, g, make-into n i (omega arith) p, make-into n j h q),
+      (any-tells _ (λ j. Leads E t n j × Any (Leads E t n) j)
+      (λ j. tells-and _ _ (leads-tells n j) (any-tells _ (Leads E t n) (leads-tells n) j)) m) (
+        λ (j, h, (q, (i, g, p))). (i, j, g, leads-into n i (omega arith) p, leads-into n j h q),
         λ (i, j, g, p, q). (j, q .row, ((q .into, q .force), (i, g, (p .into, p .force)))),
       )
 
@@ -140,43 +128,43 @@ module _ (m : ℕ) (E : ℕ → Edge) (t : ℕ) where
       (λ (a, (b, c)). (a, b, c), λ (a, b, c). (a, (b, c)))
 
   -- a chain of at most k rows
-  abbrev Within : ℕ → ℕ → ℕ → Type 0
+  abbrev pub Within : ℕ → ℕ → ℕ → Type 0
   Within k a b = (is : List ℕ) × (length is ≤ k) × Chain m E t a b is
 
-  no-row : (a b : ℕ) → (a ≡ b) ↔ Within zero a b
+  pub no-row : (a b : ℕ) → (a ≡ b) ↔ Within zero a b
   no-row a b = (λ e. ([], omega arith, e), λ (is, l, c). back is l c)
     where
       back : (is : List ℕ) → length is ≤ 0 → Chain m E t a b is → a ≡ b
       back [] l c = c
       back (i ∷ is) l c = absurd (omega arith)
 
-  last-row : (k a b : ℕ) → ((a ≡ b) ⊎ Any (λ i. Ins b i × Within k a (E i .parent)) m) ↔ Within (suc k) a b
+  pub last-row : (k a b : ℕ) → ((a ≡ b) ⊎ Any (λ i. Leads E t b i × Within k a (E i .parent)) m) ↔ Within (suc k) a b
   last-row k a b = (there, λ (is, l, c). back is l c)
     where
-      there : (a ≡ b) ⊎ Any (λ i. Ins b i × Within k a (E i .parent)) m → Within (suc k) a b
+      there : (a ≡ b) ⊎ Any (λ i. Leads E t b i × Within k a (E i .parent)) m → Within (suc k) a b
       there (inl e) = ([], omega arith, e)
-      there (inr (i, h, (x, (is, l, c)))) = (i ∷ is, omega arith, (make-into b i h x, c))
+      there (inr (i, h, (x, (is, l, c)))) = (i ∷ is, omega arith, (leads-into b i h x, c))
 
       back : (is : List ℕ) → length is ≤ suc k → Chain m E t a b is
-          → (a ≡ b) ⊎ Any (λ i. Ins b i × Within k a (E i .parent)) m
+          → (a ≡ b) ⊎ Any (λ i. Leads E t b i × Within k a (E i .parent)) m
       back [] l c = inl c
       back (i ∷ is) l (p, c) = inr (i, p .row, ((p .into, p .force), (is, omega arith, c)))
 
-  reaches-tells : (k a b : ℕ) → Tells (reaches m E t k a b) (Within k a b)
+  pub reaches-tells : (k a b : ℕ) → Tells (reaches m E t k a b) (Within k a b)
   reaches-tells zero a b = Iff·trans (tells-eq a b) (no-row a b)
   reaches-tells (suc k) a b =
       Iff·trans
       (tells-or _ _ (tells-eq a b)
-      (any-tells _ (λ i. Ins b i × Within k a (E i .parent))
-      (λ i. tells-and _ _ (ins-tells b i) (reaches-tells k a (E i .parent))) m))
+      (any-tells _ (λ i. Leads E t b i × Within k a (E i .parent))
+      (λ i. tells-and _ _ (leads-tells b i) (reaches-tells k a (E i .parent))) m))
       (last-row k a b)
 
-  pub cycle-tells : (N : ℕ) → Below m E N → (n : ℕ) → Tells (cycles m E t N n) (Cycle m E t n)
+  pub cycle-tells : (N : ℕ) → NodesBelow m E N → (n : ℕ) → Tells (cycles m E t N n) (Cycle m E t n)
   cycle-tells N b n =
       Iff·trans
-      (any-tells _ (λ i. Ins n i × Within N n (E i .parent))
-      (λ i. tells-and _ _ (ins-tells n i) (reaches-tells N n (E i .parent))) m) (
-        λ (i, h, (x, (is, l, c))). (i, is, (make-into n i h x, c)),
+      (any-tells _ (λ i. Leads E t n i × Within N n (E i .parent))
+      (λ i. tells-and _ _ (leads-tells n i) (reaches-tells N n (E i .parent))) m) (
+        λ (i, h, (x, (is, l, c))). (i, is, (leads-into n i h x, c)),
         λ (i, is, (p, c)). (
           i,
           p .row,
@@ -195,34 +183,7 @@ module _ (H : History) (t : ℕ) where
   refers-tells : (k : ℕ) → Tells (refers H t k) (Refers H t k)
   refers-tells k = tells-and _ _ (tells-lt k (H .refs)) (during-tells (H .ref k .from) (H .ref k .to) t)
 
-  astray-tells : (k n : ℕ) → Tells (refers H t k && not (isHere H t n)) (Refers H t k × (Here H t n → ⊥))
-  astray-tells k n = tells-and _ _ (refers-tells k) (tells-not _ (present-tells (H .edges) (H .edge) t (H .start) n))
-
-  -- what a line of the table holds
-  pub overlap-of : {n : ℕ} → Holds H t (fault.Overlap n) → Overlap (H .edges) (H .edge) t n
-  overlap-of (overlap x) = x
-
-  pub gap-of : {n : ℕ} → Holds H t (fault.Gap n) → Gap (H .edges) (H .edge) t n
-  gap-of (gap x) = x
-
-  pub outside-of : {n : ℕ} → Holds H t (fault.Outside n) → Outside (H .edges) (H .edge) t n
-  outside-of (outside x) = x
-
-  pub cycle-of : {n : ℕ} → Holds H t (fault.Cycle n) → Cycle (H .edges) (H .edge) t n
-  cycle-of (cycle x) = x
-
-  pub late-of : {k : ℕ} → Holds H t (fault.Late k) → Late H t k
-  late-of (late x) = x
-
-  pub dangling-of : {k : ℕ} → Holds H t (fault.Dangling k) → Dangling H t k
-  dangling-of (dangling x) = x
-
-  -- the table
-  pub holds-tells : Ruled H → (f : Fault) → Tells (holds H t f) (Holds H t f)
-  holds-tells r (fault.Overlap n) = Iff·trans (overlap-tells (H .edges) (H .edge) t n) (overlap, overlap-of)
-  holds-tells r (fault.Gap n) = Iff·trans (gap-tells (H .edges) (H .edge) t n) (gap, gap-of)
-  holds-tells r (fault.Outside n) = Iff·trans (outside-tells (H .edges) (H .edge) t n) (outside, outside-of)
-  holds-tells r (fault.Cycle n) =
-      Iff·trans (cycle-tells (H .edges) (H .edge) t (H .nodes) (ruled-below H r) n) (cycle, cycle-of)
-  holds-tells r (fault.Late k) = Iff·trans (astray-tells k (H .ref k .attribute)) (late, late-of)
-  holds-tells r (fault.Dangling k) = Iff·trans (astray-tells k (H .ref k .target)) (dangling, dangling-of)
+  pub astray-tells : (side : Side) (k : ℕ) → Tells (isAstray H t side k) (Astray H t side k)
+  astray-tells side k =
+      tells-and _ _ (refers-tells k)
+      (tells-not _ (present-tells (H .edges) (H .edge) t (H .start) (sideOf side (H .ref k))))

@@ -1,6 +1,6 @@
 -- The computed answers are allowed: so a verdict always exists, and it is the computed one. Assumes nothing.
 use mathlib.Core.Path.{_≡_, refl, sym, ap, _∙_}
-use mathlib.Core.Logic.{_≢_, inl, inr, ⊎-elim}
+use mathlib.Core.Logic.{inl, inr, ⊎-elim}
 use mathlib.Core.Bool.{Bool, true, false, cond, false≢true}
 use mathlib.Core.List.{
   List,
@@ -18,127 +18,23 @@ use mathlib.Core.List.{
 use Prim.Native.Nat.{ℕ, zero, suc, _+_, _≤_, _<_, min}
 use native.Mathlib.Decide.{decLe}
 use native.Mathlib.Omega.{arith}
-use lib.Dec.{leb, ltb}
-use borrow.Author.Tests.{ltb-true, ltb-false, leb-true, leb-false, le-leb}
-use Rattle.ground.specs.Least.{Least, least}
+use lib.Dec.{leb}
+use borrow.Author.Tests.{leb-true, leb-false, le-leb}
 use Rattle.ground.proofs.TestLaws.{by-test}
-use Rattle.ground.proofs.LeastLaws.{below-suc, least-tells}
+use Rattle.ground.proofs.LeastLaws.{below-suc}
 use Rattle.answers.specs.declared.Fault.{Fault}
-use Rattle.answers.specs.declared.Fault.the-variants as fault
 use Rattle.answers.specs.declared.Answer.{Answer}
 use Rattle.answers.specs.declared.Answer.the-variants.{Faulty}
-use Rattle.answers.specs.Numbers.{codeOf, placeOf, refuses}
-use Rattle.answers.specs.Refusals.{passed, _⨾_}
+use Rattle.answers.specs.Numbers.{refuses}
 use Rattle.answers.proofs.AnswerLaws.{faulty-refuses}
 use Rattle.tables.specs.Instants.{Now}
 use Rattle.history.specs.History.{History, Ruled}
 use Rattle.history.specs.Faults.{Holds}
-use Rattle.history.specs.Verdict.{Faultless, Verdict, accepted, refused, Shown, Names, none, first}
+use Rattle.history.specs.Verdict.{Faultless, Verdict, accepted, refused, Names, none, first}
 use Rattle.history.specs.Changes.{Changes, Change}
-use Rattle.history.specs.Computed.{
-  holds,
-  line,
-  afterGap,
-  faultsSay,
-  shownSay,
-  turns,
-  instants,
-  faulty,
-  soonest,
-  saidAt,
-  verdict,
-}
-use Rattle.history.proofs.OrderLaws.{NoneBelow, rung-first, rung-none, ladder-start, ladder-end}
-use Rattle.history.proofs.ComputedLaws.{
-  holds-tells,
-  overlap-of,
-  gap-of,
-  outside-of,
-  cycle-of,
-  late-of,
-  dangling-of,
-}
-use Rattle.history.proofs.ChangeLaws.{change-enough}
-
--- one rung of a ladder: the smallest place of the faults K, of code c and below b, or what the rest of the ladder names
-pub rung : (F : Fault → Type 0) (t : ℕ) (K : ℕ → Fault) (c : ℕ)
-    → ((q : ℕ) → codeOf (K q) ≡ c) → ((q : ℕ) → placeOf (K q) ≡ q) → ((q : ℕ) → refuses (Faulty t (K q)) ≡ true)
-    → (b k : ℕ) → Least (λ q. F (K q)) b k → ((q : ℕ) → F (K q) → q < b)
-    → (rest : Answer) → (NoneBelow F (suc c) → Names F t rest) → NoneBelow F c
-    → Names F t (cond (ltb k b) (Faulty t (K k)) passed ⨾ rest)
-rung F t K c code place named b k l bound rest next below =
-    by-test (ltb k b)
-    (λ e. rw (e, named k) (first (rung-first F K c code place below l (ltb-true k b e))))
-    (λ e. rw e (next (rung-none F K c code place below l (ltb-false k b e) bound)))
-
-module _ (H : History) (t : ℕ) (r : Ruled H) where
-  -- where a fault's place can be
-  pub overlap-below : (n : ℕ) → Holds H t (fault.Overlap n) → n < H .nodes
-  overlap-below n x = let (i, j, h, a, b) = overlap-of H t x in omega (arith, r .edge-ruled i (a .row) .child, a .into)
-
-  pub gap-below : (n : ℕ) → Holds H t (fault.Gap n) → n < H .nodes
-  gap-below n x = let (ne, away, (i, a), b) = gap-of H t x in omega (arith, r .edge-ruled i (a .row) .child, a .into)
-
-  pub outside-below : (n : ℕ) → Holds H t (fault.Outside n) → n < H .nodes
-  outside-below n x =
-      let (ne, (i, a), away) = outside-of H t x in omega (arith, r .edge-ruled i (a .row) .parent, a .out)
-
-  pub cycle-below : (n : ℕ) → Holds H t (fault.Cycle n) → n < H .nodes
-  cycle-below n x = let (i, is, a) = cycle-of H t x in omega (arith, r .edge-ruled i (a .0 .row) .child, a .0 .into)
-
-  pub late-below : (k : ℕ) → Holds H t (fault.Late k) → k < H .refs
-  late-below k x = late-of H t x .0 .0
-
-  pub dangling-below : (k : ℕ) → Holds H t (fault.Dangling k) → k < H .refs
-  dangling-below k x = dangling-of H t x .0 .0
-
-  -- of faults with a property: one that each fault but a GAP has, and no other
-  module _ (F : Fault → Type 0) (from : (f : Fault) → F f → Holds H t f)
-      (to : (f : Fault) → codeOf f ≢ codeOf (fault.Gap 0) → Holds H t f → F f) where
-    line-least : (K : ℕ → Fault) → ((q : ℕ) → codeOf (K q) ≢ codeOf (fault.Gap 0)) → (b : ℕ)
-        → Least (λ q. F (K q)) b (least (λ q. holds H t (K q)) b)
-    line-least K ne b =
-        least-tells (λ q. holds H t (K q)) (λ q. F (K q)) b
-        (λ q l. (λ e. to (K q) (ne q) (holds-tells H t r (K q) .0 e), λ x. holds-tells H t r (K q) .1 (from (K q) x)))
-
-    overlap-rung : (rest : Answer) → (NoneBelow F (codeOf (fault.Gap 0)) → Names F t rest)
-        → Names F t (line H t fault.Overlap (H .nodes) ⨾ rest)
-    overlap-rung rest next =
-        rung F t fault.Overlap _ (λ q. refl) (λ q. refl) (λ q. refl) (H .nodes) _
-        (line-least fault.Overlap (λ q e. omega arith) (H .nodes))
-        (λ q x. overlap-below q (from _ x)) rest next (ladder-start F)
-
-    from-outside : NoneBelow F (codeOf (fault.Outside 0)) → Names F t (afterGap H t)
-    unfolding afterGap
-    from-outside =
-        rung F t fault.Outside _ (λ q. refl) (λ q. refl) (λ q. refl) (H .nodes) _
-        (line-least fault.Outside (λ q e. omega arith) (H .nodes))
-        (λ q x. outside-below q (from _ x)) _
-        (rung F t fault.Cycle _ (λ q. refl) (λ q. refl) (λ q. refl) (H .nodes) _
-        (line-least fault.Cycle (λ q e. omega arith) (H .nodes))
-        (λ q x. cycle-below q (from _ x)) _
-        (rung F t fault.Late _ (λ q. refl) (λ q. refl) (λ q. refl) (H .refs) _
-        (line-least fault.Late (λ q e. omega arith) (H .refs))
-        (λ q x. late-below q (from _ x)) _
-        (rung F t fault.Dangling _ (λ q. refl) (λ q. refl) (λ q. refl) (H .refs) _
-        (line-least fault.Dangling (λ q e. omega arith) (H .refs))
-        (λ q x. dangling-below q (from _ x)) _
-        (λ below. none (ladder-end F below)))))
-
-  pub faults-named : Names (Holds H t) t (faultsSay H t)
-  unfolding faultsSay
-  faults-named =
-      overlap-rung (Holds H t) (λ f x. x) (λ f ne x. x) _
-      (rung (Holds H t) t fault.Gap _ (λ q. refl) (λ q. refl) (λ q. refl) (H .nodes) _
-      (least-tells (λ q. holds H t (fault.Gap q)) (λ q. Holds H t (fault.Gap q)) (H .nodes)
-      (λ q l. holds-tells H t r (fault.Gap q))) gap-below _
-      (from-outside (Holds H t) (λ f x. x) (λ f ne x. x)))
-
-  pub shown-named : Names (Shown H t) t (shownSay H t)
-  unfolding shownSay
-  shown-named =
-      overlap-rung (Shown H t) (λ f x. x .0) (λ f ne x. (x, ne)) _
-      (λ below. from-outside (Shown H t) (λ f x. x .0) (λ f ne x. (x, ne)) (λ g x h. below g x (omega (arith, x .1))))
+use Rattle.history.specs.Computed.{turns, instants, faulty, soonest, saidAt, verdict}
+use Rattle.history.proofs.LineLaws.{change-enough}
+use Rattle.history.proofs.SayLaws.{faults-named}
 
 -- the soonest of a list's numbers at which a test passes
 module _ (p : ℕ → Bool) where

@@ -2,8 +2,11 @@ pub mod Chains
 pub mod Tree
 pub mod RuledLaws
 pub mod SoundLaws
-pub mod OrderLaws
 pub mod ChangeLaws
 pub mod ComputedLaws
+pub mod LineLaws
+pub mod OrderLaws
+pub mod SayLaws
 pub mod VerdictLaws
 pub mod ExistsLaws
+pub mod UntilLaws

@@ -1,18 +1,23 @@
 -- What the rules of rows say of the history that tables hold. Assumes nothing.
 use mathlib.Core.Path.{_≡_, refl, sym, subst}
 use mathlib.Core.Logic.{⊎-elim}
-use mathlib.Core.List.{List}
-use Prim.Native.Nat.{ℕ, _≤_, _<_}
+use Prim.Native.Nat.{ℕ, _<_}
 use native.Mathlib.Omega.{arith}
-use Rattle.tables.specs.Rows.{Node, Edge, nodeAt, edgeAt, nodeCount, edgeCount, refCount}
+use Rattle.tables.specs.declared.rows.Side.{Side}
+use Rattle.tables.specs.declared.rows.Side.the-variants.{Attribute, Target}
+use Rattle.tables.specs.Rows.{Node, Edge, sideOf}
+use Rattle.tables.specs.Tables.{Tables, nodeIn, edgeIn}
 use Rattle.tables.specs.Rules.{NodeRule, EdgeRule}
 use Rattle.tables.specs.Says.{Obeys}
-use Rattle.history.specs.History.{History, historyOf, EdgeRuled, Ruled, Lent}
-use Rattle.history.specs.Faults.{Below, overlap, gap, outside, cycle, late, dangling}
-use Rattle.history.specs.Verdict.{Faultless}
+use Rattle.history.specs.History.{History, held, EdgeRuled, Ruled, LentRows}
+use Rattle.history.specs.Faults.{NodesBelow}
 
-pub ruled-below : (H : History) → Ruled H → Below (H .edges) (H .edge) (H .nodes)
+pub ruled-below : (H : History) → Ruled H → NodesBelow (H .edges) (H .edge) (H .nodes)
 ruled-below H r i h = (r .edge-ruled i h .parent, r .edge-ruled i h .child)
+
+pub ruled-side : (H : History) → Ruled H → (side : Side) (k : ℕ) → k < H .refs → sideOf side (H .ref k) < H .nodes
+ruled-side H r Attribute k h = r .ref-ruled k h .attribute
+ruled-side H r Target k h = r .ref-ruled k h .target
 
 -- the child's kind is one that may be held, and the root's is not
 pub edge-ruled : (start n : ℕ) (node : ℕ → Node) (e : Edge) → NodeRule 0 (node 0) → EdgeRule start n node e
@@ -29,35 +34,28 @@ edge-ruled start n node e root r =
     held : node (e .child) .kind ≡ 0 → ⊥
     held z = ⊎-elim (λ u. omega arith) (λ u. omega arith) (r .allowed)
 
-pub obeys-ruled : (start : ℕ) (ns es rs : List ℕ) → Obeys start ns es rs
-    → Ruled (historyOf start (nodeCount ns) es (edgeCount es) rs (refCount rs))
-obeys-ruled start ns es rs o =
-    let c = o .contained in
-    let n : 1 ≤ nodeCount ns = omega (arith, c .nodes-size .1, c .nodes-size .2) in
+pub obeys-ruled : (L : Tables) → Obeys L → Ruled (held L)
+obeys-ruled L o =
+    let s = o .sizes in
+    let root : 0 < L .nodes .count = s .nodes .least in
     record {
-      root = n;
-      few-nodes = omega (arith, c .nodes-size .1, c .nodes-size .3);
-      few-edges = omega (arith, c .edges-size .1, c .edges-size .3);
-      few-refs = omega (arith, o .refs-size .1, o .refs-size .3);
+      root = root;
+      few-nodes = s .nodes .most;
+      few-edges = s .edges .most;
+      few-refs = s .refs .most;
       edge-ruled =
-          λ i h. edge-ruled start (nodeCount ns) (nodeAt ns) (edgeAt es i) (c .rows .node-rule 0 n)
-          (c .rows .edge-rule i h);
+          λ i h. edge-ruled (L .start) (L .nodes .count) (nodeIn L) (edgeIn L i) (o .node-rule 0 root)
+          (o .edge-rule i h);
       ref-ruled = λ k h.
           let r = o .ref-rule k h in
           record { attribute = r .attribute; target = r .target; begins = r .label .begins; ends = r .label .ends };
     }
 
-pub obeys-lent : (start : ℕ) (ns es rs : List ℕ) → Obeys start ns es rs
-    → Lent start (nodeCount ns) es (edgeCount es) rs (refCount rs)
-obeys-lent start ns es rs o =
-    record { edge-rows = omega arith; ref-rows = omega arith; ruled = obeys-ruled start ns es rs o }
-
--- before the start there is no fault
-pub start-faultless : (H : History) → Ruled H → (t : ℕ) → t < H .start → Faultless H t
-start-faultless H r t h f (overlap (i, j, g, a, b)) = omega (arith, r .edge-ruled i (a .row) .begins, a .force)
-start-faultless H r t h f (gap (ne, away, (i, a), b)) =
-    omega (arith, r .edge-ruled i (a .row) .begins, r .edge-ruled i (a .row) .ends, a .past)
-start-faultless H r t h f (outside (ne, (i, a), away)) = omega (arith, r .edge-ruled i (a .row) .begins, a .force)
-start-faultless H r t h f (cycle (i, is, p)) = omega (arith, r .edge-ruled i (p .0 .row) .begins, p .0 .force)
-start-faultless H r t h f (late {k} ((l, x), away)) = omega (arith, r .ref-ruled k l .begins, x)
-start-faultless H r t h f (dangling {k} ((l, x), away)) = omega (arith, r .ref-ruled k l .begins, x)
+pub obeys-lent : (L : Tables) → Obeys L
+    → LentRows (L .start) (L .nodes .count) (L .edges .numbers) (L .edges .count) (L .refs .numbers) (L .refs .count)
+obeys-lent L o =
+    record {
+      edge-rows = omega (arith, o .sizes .edges .whole);
+      ref-rows = omega (arith, o .sizes .refs .whole);
+      ruled = obeys-ruled L o;
+    }

@@ -3,8 +3,11 @@ use mathlib.Core.Path.{_≡_, _∙_}
 use mathlib.Core.Logic.{_≢_, inl, inr, ⊎-elim, _↔_}
 use Prim.Native.Nat.{ℕ, _≤_}
 use native.Mathlib.Decide.{ℕ-discrete, decLe}
+use Rattle.answers.specs.declared.Kind.{Kind}
+use Rattle.answers.specs.declared.Kind.the-variants as kind
+use Rattle.answers.specs.Numbers.{fault}
 use Rattle.history.specs.History.{History, Ruled}
-use Rattle.history.specs.Faults.{Into, Touched, OneChain, Gap, Here, overlap, gap, outside, cycle, late, dangling}
+use Rattle.history.specs.Faults.{Into, Touched, OneChain, Gap, Here, HoldsAt}
 use Rattle.history.specs.Sound.{Missing, Sound}
 use Rattle.history.specs.Verdict.{Faultless}
 use Rattle.history.proofs.Chains.{into-dec}
@@ -49,22 +52,24 @@ module _ (H : History) (t : ℕ) where
         record {
           reached =
               tree-tells .0 (record {
-                no-overlap = λ n x. f _ (overlap x);
-                no-outside = λ n x. f _
-                    (outside x);
-                no-cycle = λ n x. f _ (cycle x);
+                no-overlap = λ n. f (fault kind.Overlap n);
+                no-outside = λ n. f (fault kind.Outside n);
+                no-cycle = λ n. f (fault kind.Cycle n);
               });
-          unbroken = λ n x. f _ (gap (missing-gap r n x));
-          joined = λ k x. (not-away _ (λ a. f _ (late (x, a))), not-away _ (λ a. f _ (dangling (x, a))));
+          unbroken = λ n x. f (fault kind.Gap n) (missing-gap r n x);
+          joined = λ k x. (
+            not-away _ (λ a. f (fault kind.Late k) (x, a)),
+            not-away _ (λ a. f (fault kind.Dangling k) (x, a)),
+          );
         }
 
-    sound-faultless : Sound H t → Faultless H t
-    sound-faultless s f (overlap x) = tree-tells .1 (s .reached) .no-overlap _ x
-    sound-faultless s f (gap x) = s .unbroken _ (gap-missing _ x)
-    sound-faultless s f (outside x) = tree-tells .1 (s .reached) .no-outside _ x
-    sound-faultless s f (cycle x) = tree-tells .1 (s .reached) .no-cycle _ x
-    sound-faultless s f (late x) = x .1 (s .joined _ (x .0) .0)
-    sound-faultless s f (dangling x) = x .1 (s .joined _ (x .0) .1)
+    sound-faultless : Sound H t → (k : Kind) (p : ℕ) → HoldsAt H t k p → ⊥
+    sound-faultless s kind.Overlap n x = tree-tells .1 (s .reached) .no-overlap n x
+    sound-faultless s kind.Gap n x = s .unbroken n (gap-missing n x)
+    sound-faultless s kind.Outside n x = tree-tells .1 (s .reached) .no-outside n x
+    sound-faultless s kind.Cycle n x = tree-tells .1 (s .reached) .no-cycle n x
+    sound-faultless s kind.Late k x = x .1 (s .joined k (x .0) .0)
+    sound-faultless s kind.Dangling k x = x .1 (s .joined k (x .0) .1)
 
     pub sound : Faultless H t ↔ Sound H t
-    sound = (faultless-sound, sound-faultless)
+    sound = (faultless-sound, λ s f. sound-faultless s (f .kind) (f .place))

@@ -9,7 +9,7 @@ use native.Mathlib.Decide.{ℕ-discrete, decLt}
 use native.Mathlib.Omega.{arith}
 use lib.ListN.{length, length-append}
 use Rattle.tables.specs.Rows.{Edge}
-use Rattle.history.specs.Faults.{Into, NoneInto, Touched, Chain, Overlap, Outside, Cycle, Below, OneChain}
+use Rattle.history.specs.Faults.{Into, NoneInto, Touched, Chain, Overlap, Outside, Cycle, NodesBelow, OneChain}
 use Rattle.history.proofs.Chains.{join, to-node, into-node, parent-touched, into-dec, long-cycle}
 
 -- none of OVERLAP, OUTSIDE and CYCLE
@@ -54,7 +54,7 @@ module _ (m : ℕ) (E : ℕ → Edge) (t : ℕ) where
 
   -- where a row out of a node other than the root comes with a row into it, and no chain goes round, a node touched has
   -- a chain from the root
-  module _ (N : ℕ) (b : Below m E N) (outs : (n : ℕ) → Outside m E t n → ⊥) where
+  module _ (N : ℕ) (b : NodesBelow m E N) (outs : (n : ℕ) → Outside m E t n → ⊥) where
     up-row : (n : ℕ) → n ≢ 0 → Touched m E t n → (i : ℕ) × Into m E t n i
     up-row n ne (inl s) = s
     up-row n ne (inr o) = go (into-dec m E t n)
@@ -97,7 +97,7 @@ module _ (m : ℕ) (E : ℕ → Edge) (t : ℕ) where
             let (c, y) = long-cycle m E t N b (w .0) n (w .1) (touched-below n h) (omega (arith, w .3)) (w .2) in
             absurd (cyc c y)
 
-  pub tree-reached : (N : ℕ) → Below m E N → Tree m E t → (n : ℕ) → Touched m E t n → OneChain m E t 0 n
+  pub tree-reached : (N : ℕ) → NodesBelow m E N → Tree m E t → (n : ℕ) → Touched m E t n → OneChain m E t 0 n
   tree-reached N b w n h =
       (reach n h .0, reach n h .1, λ js q. one-chain root (w .no-overlap) n (reach n h .0) js (reach n h .1) q)
     where
@@ -144,6 +144,6 @@ module _ (m : ℕ) (E : ℕ → Edge) (t : ℕ) where
     pub reached-tree : Tree m E t
     reached-tree = record { no-overlap = overlap-free; no-outside = outside-free; no-cycle = cycle-free }
 
-pub tree : (m : ℕ) (E : ℕ → Edge) (t N : ℕ) → Below m E N
+pub tree : (m : ℕ) (E : ℕ → Edge) (t N : ℕ) → NodesBelow m E N
     → Tree m E t ↔ ((n : ℕ) → Touched m E t n → OneChain m E t 0 n)
 tree m E t N b = (tree-reached m E t N b, reached-tree m E t)

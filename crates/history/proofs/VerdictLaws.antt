@@ -28,8 +28,8 @@ module _ (H : History) where
 
   pub verdict-unique : {x y : Answer} → Verdict H x → Verdict H y → x ≡ y
   verdict-unique (accepted n) (accepted k) = refl
-  verdict-unique (accepted n) (refused b) = absurd (n _ (b .instant) _ (b .fault .holds))
-  verdict-unique (refused a) (accepted k) = absurd (k _ (a .instant) _ (a .fault .holds))
+  verdict-unique (accepted n) (refused {f = f} b) = absurd (n _ (b .instant) f (b .fault .holds))
+  verdict-unique (refused {f = f} a) (accepted k) = absurd (k _ (a .instant) f (a .fault .holds))
   verdict-unique (refused a) (refused b) = same _ _ _ _ a b
 
 pub names-unique : (F : Fault → Type 0) (t : ℕ) {x y : Answer} → Names F t x → Names F t y → x ≡ y

@@ -6,8 +6,9 @@
 --   reaches              a chain of at most k rows leads from one node to another
 --   overlaps, hasGap, isOutside, cycles   the lines of the table that are of nodes
 --   refers               reference row k is in force
---   holds                the table: a fault holds at t
---   line                 a line of the table as an answer, with its smallest place; afterGap: the lines after GAP
+--   isAstray             reference row k is in force, and the node at one of its ends is not present
+--   holds                the table: a fault of a kind holds at t, at a place
+--   line                 a line of the table as an answer, with its smallest place; say: line after line
 --   faultsSay            the first fault at t as an answer; shownSay: with GAP set aside
 --   turns                the instants at which labels start, and those past their ends
 --   instants             the change instants, listed
@@ -21,16 +22,19 @@ use mathlib.Core.List.{List, [], _∷_, _++_}
 use Prim.Native.Nat.{ℕ, zero, suc, _+_, min}
 use lib.Dec.{leb, ltb, eqb}
 use Rattle.ground.specs.Least.{any}
-use Rattle.answers.specs.declared.Fault.{Fault}
-use Rattle.answers.specs.declared.Fault.the-variants.{Overlap, Gap, Outside, Cycle, Late, Dangling}
+use Rattle.answers.specs.declared.Kind.{Kind}
+use Rattle.answers.specs.declared.Kind.the-variants.{Overlap, Gap, Outside, Cycle, Late, Dangling}
 use Rattle.answers.specs.declared.Answer.{Answer}
 use Rattle.answers.specs.declared.Answer.the-variants.{Faulty}
-use Rattle.answers.specs.Numbers.{refuses}
+use Rattle.answers.specs.Numbers.{kinds, shownKinds, fault, refuses}
 use Rattle.answers.specs.Refusals.{passed, _⨾_}
+use Rattle.tables.specs.declared.rows.Side.{Side}
+use Rattle.tables.specs.declared.rows.Side.the-variants.{Attribute, Target}
 use Rattle.tables.specs.Instants.{Now, during}
-use Rattle.tables.specs.Rows.{Edge}
+use Rattle.tables.specs.Rows.{Edge, sideOf}
 use Rattle.tables.specs.Says.{smallest}
 use Rattle.history.specs.History.{History}
+use Rattle.history.specs.Faults.{places}
 
 -- what a `let` binds waits: a search stops at the first that passes
 module _ (m : ℕ) (E : ℕ → Edge) (t : ℕ) where
@@ -76,31 +80,30 @@ module _ (H : History) (t : ℕ) where
   abbrev pub isHere : ℕ → Bool
   isHere = isPresent (H .edges) (H .edge) t (H .start)
 
-  abbrev pub holds : Fault → Bool
-  holds (Overlap n) = overlaps (H .edges) (H .edge) t n
-  holds (Gap n) = hasGap (H .edges) (H .edge) t n
-  holds (Outside n) = isOutside (H .edges) (H .edge) t n
-  holds (Cycle n) = cycles (H .edges) (H .edge) t (H .nodes) n
-  holds (Late k) = refers k && not (isHere (H .ref k .attribute))
-  holds (Dangling k) = refers k && not (isHere (H .ref k .target))
+  abbrev pub isAstray : Side → ℕ → Bool
+  isAstray side k = refers k && not (isHere (sideOf side (H .ref k)))
+
+  abbrev pub holds : Kind → ℕ → Bool
+  holds Overlap = overlaps (H .edges) (H .edge) t
+  holds Gap = hasGap (H .edges) (H .edge) t
+  holds Outside = isOutside (H .edges) (H .edge) t
+  holds Cycle = cycles (H .edges) (H .edge) t (H .nodes)
+  holds Late = isAstray Attribute
+  holds Dangling = isAstray Target
 
   -- one line of the table: its smallest place
-  abbrev pub line : (ℕ → Fault) → ℕ → Answer
-  line kind = smallest (λ p. Faulty t (kind p)) (λ p. holds (kind p))
+  abbrev pub line : Kind → Answer
+  line k = smallest (λ p. Faulty t (fault k p)) (holds k) (places H k)
 
-  unfoldable pub afterGap : Answer
-  afterGap =
-      line Outside (H .nodes)
-      ⨾ line Cycle (H .nodes)
-      ⨾ line Late (H .refs)
-      ⨾ line Dangling (H .refs)
-      ⨾ passed
+  unfoldable pub say : List Kind → Answer
+  say [] = passed
+  say (k ∷ ks) = line k ⨾ say ks
 
-  unfoldable pub faultsSay : Answer
-  faultsSay = line Overlap (H .nodes) ⨾ line Gap (H .nodes) ⨾ afterGap
+  abbrev pub faultsSay : Answer
+  faultsSay = say kinds
 
-  unfoldable pub shownSay : Answer
-  shownSay = line Overlap (H .nodes) ⨾ afterGap
+  abbrev pub shownSay : Answer
+  shownSay = say shownKinds
 
 -- the starts of the first n labels, and the instants past their ends
 abbrev pub turns : (ℕ → ℕ) → (ℕ → ℕ) → ℕ → List ℕ

@@ -1,15 +1,17 @@
 -- Presence, chains, and the faults at an instant, line for line.
---   Into, Out         row i leads into n, out of n, and is in force
+--   Leads             row i leads into n and is in force; Into, Out: it is one of m rows, and leads into n, out of n
 --   NoneInto          no row into n is in force
 --   Ended, Coming     row i leads into n, and ended before t, starts after t
 --   Touched           a row in force touches n
 --   Present, Here     n is present; in a history
 --   Chain             rows, all in force, that lead from one node to another
 --   OneChain          exactly one chain leads from one node to another
---   Below             all node numbers of the rows are below n
+--   NodesBelow        all node numbers of the rows are below n
 --   Refers            reference row k is in force
 --   Overlap, Gap, Outside, Cycle, Late, Dangling   the lines of the table
---   Holds             the table: a fault holds at t
+--   Astray            a reference is in force, and the node at one of its ends is not present
+--   HoldsAt, Holds    the table: a fault of a kind holds at t, at a place; a fault does
+--   places            how many places a fault of a kind can have
 -- [01:Faults at an instant] "These condense conditions 1, 2, 3, half of 5, and 6 of Definition 3." [003:Def 3] OUTSIDE
 -- breaks condition 1, OVERLAP and GAP condition 2, CYCLE condition 3, LATE half of condition 5, DANGLING condition 6.
 -- Assumes nothing.
@@ -18,10 +20,17 @@ use mathlib.Core.Logic.{_≢_, _⊎_}
 use mathlib.Core.List.{List, [], _∷_}
 use Prim.Native.Nat.{ℕ, _≤_, _<_}
 use Rattle.answers.specs.declared.Fault.{Fault}
-use Rattle.answers.specs.declared.Fault.the-variants
+use Rattle.answers.specs.declared.Kind.{Kind}
+use Rattle.answers.specs.declared.Kind.the-variants as kind
+use Rattle.tables.specs.declared.rows.Side.{Side}
+use Rattle.tables.specs.declared.rows.Side.the-variants.{Attribute, Target}
 use Rattle.tables.specs.Instants.{During}
-use Rattle.tables.specs.Rows.{Edge}
+use Rattle.tables.specs.Rows.{Edge, sideOf}
 use Rattle.history.specs.History.{History}
+
+-- of however many rows
+abbrev pub Leads : (ℕ → Edge) → ℕ → ℕ → ℕ → Type 0
+Leads E t n i = (E i .child ≡ n) × During (E i .from) (E i .to) t
 
 -- Of the m containment rows E, at the instant t:
 module _ (m : ℕ) (E : ℕ → Edge) (t : ℕ) where
@@ -83,8 +92,8 @@ module _ (m : ℕ) (E : ℕ → Edge) (t : ℕ) where
   Cycle n = (i : ℕ) × (is : List ℕ) × Chain n n (i ∷ is)
 
 -- all node numbers of the rows are below n
-abbrev pub Below : ℕ → (ℕ → Edge) → ℕ → Type 0
-Below m E n = (i : ℕ) → i < m → (E i .parent < n) × (E i .child < n)
+abbrev pub NodesBelow : ℕ → (ℕ → Edge) → ℕ → Type 0
+NodesBelow m E n = (i : ℕ) → i < m → (E i .parent < n) × (E i .child < n)
 
 module _ (H : History) (t : ℕ) where
   -- reference row k is in force
@@ -94,18 +103,34 @@ module _ (H : History) (t : ℕ) where
   abbrev pub Here : ℕ → Type 0
   Here = Present (H .edges) (H .edge) t (H .start)
 
+  -- reference row k is in force, and the node at one of its ends is not present
+  abbrev pub Astray : Side → ℕ → Type 0
+  Astray side k = Refers k × (Here (sideOf side (H .ref k)) → ⊥)
+
   -- 15 LATE "a reference is in force and its attribute is not present"
   abbrev pub Late : ℕ → Type 0
-  Late k = Refers k × (Here (H .ref k .attribute) → ⊥)
+  Late = Astray Attribute
 
   -- 16 DANGLING "a reference is in force and its target is not present"
   abbrev pub Dangling : ℕ → Type 0
-  Dangling k = Refers k × (Here (H .ref k .target) → ⊥)
+  Dangling = Astray Target
 
-  pub data Holds : Fault → Type 0 where
-    overlap : {n : ℕ} → Overlap (H .edges) (H .edge) t n → Holds (the-variants.Overlap n)
-    gap : {n : ℕ} → Gap (H .edges) (H .edge) t n → Holds (the-variants.Gap n)
-    outside : {n : ℕ} → Outside (H .edges) (H .edge) t n → Holds (the-variants.Outside n)
-    cycle : {n : ℕ} → Cycle (H .edges) (H .edge) t n → Holds (the-variants.Cycle n)
-    late : {k : ℕ} → Late k → Holds (the-variants.Late k)
-    dangling : {k : ℕ} → Dangling k → Holds (the-variants.Dangling k)
+  abbrev pub HoldsAt : Kind → ℕ → Type 0
+  HoldsAt kind.Overlap = Overlap (H .edges) (H .edge) t
+  HoldsAt kind.Gap = Gap (H .edges) (H .edge) t
+  HoldsAt kind.Outside = Outside (H .edges) (H .edge) t
+  HoldsAt kind.Cycle = Cycle (H .edges) (H .edge) t
+  HoldsAt kind.Late = Late
+  HoldsAt kind.Dangling = Dangling
+
+  abbrev pub Holds : Fault → Type 0
+  Holds f = HoldsAt (f .kind) (f .place)
+
+-- the table's last column: how many nodes, or reference rows, can be the place of a fault of a kind
+abbrev pub places : History → Kind → ℕ
+places H kind.Overlap = H .nodes
+places H kind.Gap = H .nodes
+places H kind.Outside = H .nodes
+places H kind.Cycle = H .nodes
+places H kind.Late = H .refs
+places H kind.Dangling = H .refs

@@ -1,8 +1,8 @@
 -- A history: the start, and rows by their numbers.
 --   History    the start, how many nodes, containment rows and reference rows, and the rows
---   historyOf  the history that the first rows of three tables hold; held: that whole tables hold
+--   historyOf  the history that the first rows of three tables hold; held: that lent tables hold
 --   EdgeRuled, RefRuled   what the rules of rows say of a row of a history; Ruled: of a history
---   Lent       the tables hold so many rows, and the rows obey their rules: what the code over a history asks of
+--   LentRows       the tables hold so many rows, and the rows obey their rules: what the code over a history asks of
 --              its slices
 -- EdgeRuled and RefRuled ask less than EdgeRule and RefRule of tables/specs/Rules.antt. A history has no kinds: of
 -- them it is left that no row leads into the root. And a label may start at Now. Theory over rows by number needs only
@@ -11,8 +11,9 @@
 use mathlib.Core.Logic.{_≢_}
 use mathlib.Core.List.{List}
 use Prim.Native.Nat.{ℕ, _≤_, _<_}
-use Rattle.tables.specs.Rows.{Edge, Ref, edgeAt, refAt, HasEdges, HasRefs, nodeCount, edgeCount, refCount}
-use Rattle.tables.specs.Rules.{mostNodes, mostEdges, mostRefs}
+use Rattle.tables.specs.Rows.{Edge, Ref, edgeAt, refAt, HasEdges, HasRefs}
+use Rattle.tables.specs.Tables.{Tables}
+use Rattle.tables.specs.Sizes.{mostNodes, mostEdges, mostRefs}
 
 pub record History : Type 0 where
   pub start : ℕ
@@ -25,9 +26,9 @@ pub record History : Type 0 where
 abbrev pub historyOf : ℕ → ℕ → List ℕ → ℕ → List ℕ → ℕ → History
 historyOf start n es m rs k = record { start = start; nodes = n; edges = m; edge = edgeAt es; refs = k; ref = refAt rs }
 
--- of whole tables
-abbrev pub held : ℕ → List ℕ → List ℕ → List ℕ → History
-held start ns es rs = historyOf start (nodeCount ns) es (edgeCount es) rs (refCount rs)
+abbrev pub held : Tables → History
+held L =
+    historyOf (L .start) (L .nodes .count) (L .edges .numbers) (L .edges .count) (L .refs .numbers) (L .refs .count)
 
 -- a containment row: both ends are nodes, its child is not the root, its label is no earlier than the start and does
 -- not end before it starts
@@ -52,7 +53,7 @@ pub record Ruled (H : History) : Type 0 where
   pub edge-ruled : (i : ℕ) → i < H .edges → EdgeRuled (H .start) (H .nodes) (H .edge i)
   pub ref-ruled : (k : ℕ) → k < H .refs → RefRuled (H .start) (H .nodes) (H .ref k)
 
-pub record Lent (start n : ℕ) (es : List ℕ) (m : ℕ) (rs : List ℕ) (k : ℕ) : Type 0 where
+pub record LentRows (start n : ℕ) (es : List ℕ) (m : ℕ) (rs : List ℕ) (k : ℕ) : Type 0 where
   pub edge-rows : HasEdges es m
   pub ref-rows : HasRefs rs k
   pub ruled : Ruled (historyOf start n es m rs k)

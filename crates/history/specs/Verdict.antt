@@ -11,17 +11,18 @@ use mathlib.Core.Path.{_≡_}
 use mathlib.Core.Logic.{_≢_, _⊎_}
 use Prim.Native.Nat.{ℕ, _≤_, _<_}
 use Rattle.answers.specs.declared.Fault.{Fault}
-use Rattle.answers.specs.declared.Fault.the-variants.{Gap}
+use Rattle.answers.specs.declared.Kind.the-variants.{Gap}
 use Rattle.answers.specs.declared.Answer.{Answer}
 use Rattle.answers.specs.declared.Answer.the-variants.{Faulty}
-use Rattle.answers.specs.Numbers.{codeOf, placeOf}
+use Rattle.answers.specs.Numbers.{codeOf}
 use Rattle.answers.specs.Refusals.{passed}
 use Rattle.tables.specs.Instants.{Now}
 use Rattle.history.specs.History.{History}
 use Rattle.history.specs.Faults.{Holds}
 
 abbrev pub Ahead : Fault → Fault → Type 0
-Ahead g f = (codeOf g < codeOf f) ⊎ ((codeOf g ≡ codeOf f) × (placeOf g < placeOf f))
+Ahead g f =
+    (codeOf (g .kind) < codeOf (f .kind)) ⊎ ((codeOf (g .kind) ≡ codeOf (f .kind)) × (g .place < f .place))
 
 -- [01:Faults at an instant] "the smallest code, and there the smallest place"
 pub record First (F : Fault → Type 0) (f : Fault) : Type 0 where
@@ -45,7 +46,7 @@ pub data Verdict (H : History) : Answer → Type 0 where
 
 -- [01:What the calls answer] Snapshot: "the fault at t of smallest code and place with GAP set aside"
 abbrev pub Shown : History → ℕ → Fault → Type 0
-Shown H t f = Holds H t f × (codeOf f ≢ codeOf (Gap 0))
+Shown H t f = Holds H t f × (codeOf (f .kind) ≢ codeOf Gap)
 
 pub data Names (F : Fault → Type 0) (t : ℕ) : Answer → Type 0 where
   none : ((f : Fault) → F f → ⊥) → Names F t passed
