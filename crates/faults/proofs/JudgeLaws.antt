@@ -1,32 +1,37 @@
--- Each leaf finds what the computed table has at its line. Assumes nothing.
-use mathlib.Core.Path.{_≡_, _∙_}
+-- Each leaf finds what the computed table has at its line. A new kind of fault is one law of its leaf. Assumes nothing.
+use mathlib.Core.Path.{_≡_, refl, _∙_}
 use mathlib.Core.Logic.{_≢_, inl, inr, ⊎-elim, Iff·trans}
-use mathlib.Core.List.{List}
+use mathlib.Core.Bool.{Bool}
+use mathlib.Core.List.{List, [], _∷_}
 use Prim.Native.Nat.{ℕ, _≤_, _<_}
 use native.Mathlib.Omega.{arith}
-use lib.ListN.{length}
-use borrow.Author.Tests.{lt-ltb, le-ltb}
 use Rattle.ground.specs.Tests.{Tells}
 use Rattle.ground.specs.Least.{Least, least}
 use Rattle.ground.proofs.TestLaws.{tells-and}
 use Rattle.ground.proofs.LeastLaws.{least-unique, least-tells, least-same, least-none}
-use Rattle.answers.specs.declared.Fault.{Fault}
-use Rattle.answers.specs.declared.Fault.the-variants as fault
+use Rattle.answers.specs.declared.Kind.{Kind}
+use Rattle.answers.specs.declared.Kind.the-variants as kind
 use Rattle.answers.specs.declared.Answer.{Answer}
 use Rattle.answers.specs.declared.Answer.the-variants.{Faulty}
+use Rattle.answers.specs.Numbers.{fault}
 use Rattle.answers.specs.Refusals.{passed}
+use Rattle.tables.specs.declared.rows.Side.{Side}
+use Rattle.tables.specs.declared.rows.Side.the-variants.{Attribute, Target}
 use Rattle.tables.specs.Instants.{Now}
+use Rattle.tables.specs.Rows.{refAt, sideOf}
 use Rattle.tables.proofs.LabelLaws.{during-tells}
-use Rattle.history.specs.History.{History, Ruled}
-use Rattle.history.specs.Faults.{Overlap, Refers, Here, Holds, overlap, gap, outside, cycle, late, dangling}
-use Rattle.history.specs.Computed.{holds, afterGap, faultsSay, shownSay}
-use Rattle.history.proofs.RuledLaws.{ruled-below}
-use Rattle.history.proofs.ComputedLaws.{holds-tells, overlap-of, gap-of, outside-of, cycle-of, late-of, dangling-of}
-use Rattle.faults.specs.Slots.{Slots}
-use Rattle.faults.specs.Stays.{Stays}
+use Rattle.history.specs.History.{History, historyOf, LentRows}
+use Rattle.history.specs.Faults.{Overlap, Here, Astray, HoldsAt, places}
+use Rattle.history.specs.Computed.{holds, say}
+use Rattle.history.proofs.RuledLaws.{ruled-below, ruled-side}
+use Rattle.history.proofs.LineLaws.{lawful}
+use Rattle.history.proofs.SayLaws.{say-found, say-on}
+use Rattle.faults.specs.Stays.{Bounds}
 use Rattle.faults.specs.Walks.{Back}
-use Rattle.faults.specs.Leaves.{isMany, isGap, Parts, isAstray}
+use Rattle.faults.specs.Leaves.{isMany, isGap, Parts, isStray, Referring}
+use Rattle.faults.specs.Judged.{Seen, Clear, Finds, Rest}
 use Rattle.faults.proofs.LeafLaws.{
+  View,
   many-tells,
   absent-tells,
   gap-tells,
@@ -36,161 +41,101 @@ use Rattle.faults.proofs.LeafLaws.{
   cycle-back,
 }
 
-module _ (H : History) (t : ℕ) (r : Ruled H) (up : List ℕ) (long : H .nodes ≤ length up)
-    (s : Slots (H .edge) t (H .edges) up) where
-  -- the least place of a line, by whatever means it was found
-  line-is : (K : ℕ → Fault) (b : ℕ) {x : ℕ} → Least (λ q. Holds H t (K q)) b x → x ≡ least (λ q. holds H t (K q)) b
-  line-is K b l =
-      least-unique (λ q. Holds H t (K q)) l
-      (least-tells (λ q. holds H t (K q)) (λ q. Holds H t (K q)) b (λ q h. holds-tells H t r (K q)))
+-- the ends of a history's references are below any number that is no smaller than the count of nodes
+pub lent-referring : {start n m k : ℕ} {es rs : List ℕ} → LentRows start n es m rs k → (w : ℕ) → n ≤ w
+    → Referring rs k w
+lent-referring l w h =
+    record { rows = l .ref-rows; ends = λ side j g. omega (arith, ruled-side _ (l .ruled) side j g) }
 
-  overlap-least : Least (λ q. Holds H t (fault.Overlap q)) (H .nodes) (least (isMany up) (H .nodes))
-  overlap-least =
-      least-tells (isMany up) (λ q. Holds H t (fault.Overlap q)) (H .nodes)
-      (λ q h. Iff·trans (many-tells (H .edges) (H .edge) t (H .nodes) (ruled-below H r) (r .few-nodes) up long s q h)
-      (overlap, overlap-of H t))
+module _ {H : History} {t : ℕ} {up : List ℕ} (s : Seen H t up) where
+  pub view : View (H .edges) (H .edge) t (H .nodes) up
+  view = record { below = ruled-below H (s .ruled); few = s .ruled .few-nodes; long = s .long; slots = s .slots }
+
+  -- the least place of a line, by whatever means it was found, and by a test
+  line-is : (k : Kind) {x : ℕ} → Least (HoldsAt H t k) (places H k) x → x ≡ least (holds H t k) (places H k)
+  line-is k l =
+      least-unique (HoldsAt H t k) l
+      (least-tells (holds H t k) (HoldsAt H t k) (places H k) (λ q h. lawful H k .tells (s .ruled) t q))
+
+  test-is : (k : Kind) (test : ℕ → Bool) → ((q : ℕ) → q < places H k → Tells (test q) (HoldsAt H t k q)) → {x : ℕ}
+      → x ≡ least test (places H k) → x ≡ least (holds H t k) (places H k)
+  test-is k test tells e = e ∙ line-is k (least-tells test (HoldsAt H t k) (places H k) tells)
 
   pub overlap-line : {x : ℕ} → x ≡ least (isMany up) (H .nodes)
-      → x ≡ least (λ q. holds H t (fault.Overlap q)) (H .nodes)
-  overlap-line e = e ∙ line-is fault.Overlap (H .nodes) overlap-least
+      → x ≡ least (holds H t kind.Overlap) (places H kind.Overlap)
+  overlap-line = test-is kind.Overlap (isMany up) (many-tells view)
 
   -- a search that found no OVERLAP has shown that there is none
-  pub no-overlap : {x : ℕ} → x ≡ least (isMany up) (H .nodes) → H .nodes ≤ x → (c : ℕ)
-      → Overlap (H .edges) (H .edge) t c → ⊥
-  no-overlap e h c (i, j, g, p, q) =
-      least-none (λ q. Holds H t (fault.Overlap q)) overlap-least (omega arith) c
-      (omega (arith, r .edge-ruled i (p .row) .child, p .into))
-      (overlap (i, j, g, p, q))
+  pub clear : {x : ℕ} → x ≡ least (isMany up) (H .nodes) → H .nodes ≤ x → Clear H t up
+  clear e h =
+      record {
+        seen = s;
+        sole = λ c p.
+            least-none (Overlap (H .edges) (H .edge) t)
+            (least-tells (isMany up) (Overlap (H .edges) (H .edge) t) (H .nodes) (many-tells view)) (omega arith) c
+            (lawful H kind.Overlap .below (s .ruled) t c p) p;
+      }
 
-  pub gap-line : t ≤ Now → (first last : List ℕ) → H .nodes ≤ length first → Stays (H .edge) (H .edges) first last
-      → {x : ℕ}
-      → x ≡ least (isGap up first last t) (H .nodes) → x ≡ least (λ q. holds H t (fault.Gap q)) (H .nodes)
-  gap-line now first last enough stays e =
-      e ∙ line-is fault.Gap (H .nodes)
-      (least-tells (isGap up first last t) (λ q. Holds H t (fault.Gap q)) (H .nodes)
-      (λ q h. Iff·trans
-      (gap-tells (H .edges) (H .edge) t (H .nodes) (ruled-below H r) (r .few-nodes) up long s now
-      (λ j l. r .edge-ruled j l .ends) q h first last (stays q (omega arith)))
-      (gap, gap-of H t)))
+  pub gap-line : t ≤ Now → {first last : List ℕ} → Bounds (H .edges) (H .edge) (H .nodes) first last → {x : ℕ}
+      → x ≡ least (isGap up first last t) (H .nodes) → x ≡ least (holds H t kind.Gap) (places H kind.Gap)
+  gap-line now {first} {last} b =
+      test-is kind.Gap (isGap up first last t)
+      (λ q h. gap-tells view now (λ j l. s .ruled .edge-ruled j l .ends) q h first last
+      (b .stays q (omega (arith, b .firsts))))
 
   -- LATE and DANGLING: where a reference is in force, a node is absent by its slot exactly if it is not present
-  astray-tells : (k n : ℕ) → k < H .refs → n < H .nodes
-      → Tells (isAstray up t (H .ref k) n) (Refers H t k × (Here H t n → ⊥))
-  astray-tells k n h l =
+  stray-tells : (side : Side) (k : ℕ) → k < H .refs → Tells (isStray up t side (H .ref k)) (Astray H t side k)
+  stray-tells side k h =
       Iff·trans
       (tells-and _ _ (during-tells (H .ref k .from) (H .ref k .to) t)
-      (absent-tells (H .edges) (H .edge) t (H .nodes) (ruled-below H r) (r .few-nodes) up long s n l)) (
+      (absent-tells view (sideOf side (H .ref k)) (ruled-side H (s .ruled) side k h))) (
         λ (f, (ne, away)). ((h, f), ⊎-elim (λ p. ne (p .0)) (λ p. away (p .1 .0) (p .1 .1))),
         λ ((g, f), away). (f, (ne f away, λ i p. away (inr (ne f away, (i, p))))),
       )
     where
-      ne : (H .ref k .from ≤ t) × (t ≤ H .ref k .to) → (Here H t n → ⊥) → n ≢ 0
-      ne f away e = away (inl (e, omega (arith, r .ref-ruled k h .begins)))
+      ne : (H .ref k .from ≤ t) × (t ≤ H .ref k .to) → (Here H t (sideOf side (H .ref k)) → ⊥)
+          → sideOf side (H .ref k) ≢ 0
+      ne f away e = away (inl (e, omega (arith, s .ruled .ref-ruled k h .begins)))
 
-  pub late-line : {x : ℕ} → x ≡ least (λ j. isAstray up t (H .ref j) (H .ref j .attribute)) (H .refs)
-      → x ≡ least (λ q. holds H t (fault.Late q)) (H .refs)
-  late-line e =
-      e ∙ line-is fault.Late (H .refs)
-      (least-tells (λ j. isAstray up t (H .ref j) (H .ref j .attribute)) (λ q. Holds H t (fault.Late q)) (H .refs)
-      (λ q h. Iff·trans (astray-tells q (H .ref q .attribute) h (r .ref-ruled q h .attribute)) (late, late-of H t)))
+-- what each leaf after GAP finds
+module _ {n : ℕ} {rs : List ℕ} {k t : ℕ} {up : List ℕ} {x : ℕ} where
+  pub outside-found : Least (Parts up n) n x → Finds n rs k t up kind.Outside x
+  outside-found l =
+      record {
+        place = λ start es m record { seen = s; sole = one }.
+            line-is s kind.Outside (least-same (parts-outside (view s)) (λ q h. outside-parts (view s) one q) l);
+      }
 
-  pub dangling-line : {x : ℕ} → x ≡ least (λ j. isAstray up t (H .ref j) (H .ref j .target)) (H .refs)
-      → x ≡ least (λ q. holds H t (fault.Dangling q)) (H .refs)
-  dangling-line e =
-      e ∙ line-is fault.Dangling (H .refs)
-      (least-tells (λ j. isAstray up t (H .ref j) (H .ref j .target)) (λ q. Holds H t (fault.Dangling q)) (H .refs)
-      (λ q h. Iff·trans (astray-tells q (H .ref q .target) h (r .ref-ruled q h .target)) (dangling, dangling-of H t)))
+  pub cycle-found : Least (Back up n) n x → Finds n rs k t up kind.Cycle x
+  cycle-found l =
+      record {
+        place = λ start es m record { seen = s; sole = one }.
+            line-is s kind.Cycle (least-same (back-cycle (view s) one) (cycle-back (view s) one) l);
+      }
 
-  module _ (sole : (c : ℕ) → Overlap (H .edges) (H .edge) t c → ⊥) where
-    pub outside-line : {x : ℕ} → Least (Parts up (H .nodes)) (H .nodes) x
-        → x ≡ least (λ q. holds H t (fault.Outside q)) (H .nodes)
-    outside-line l =
-        line-is fault.Outside (H .nodes)
-        (least-same
-        (λ q h p. outside (parts-outside (H .edges) (H .edge) t (H .nodes) (ruled-below H r)
-        (r .few-nodes) up long s q h p))
-        (λ q h p. outside-parts (H .edges) (H .edge) t (H .nodes) (ruled-below H r) (r .few-nodes) up long s sole q
-        (outside-of H t p)) l)
+  pub late-found : x ≡ least (λ j. isStray up t Attribute (refAt rs j)) k → Finds n rs k t up kind.Late x
+  late-found e = record { place = λ start es m c. test-is (c .seen) kind.Late _ (stray-tells (c .seen) Attribute) e }
 
-    pub cycle-line : {x : ℕ} → Least (Back up (H .nodes)) (H .nodes) x
-        → x ≡ least (λ q. holds H t (fault.Cycle q)) (H .nodes)
-    cycle-line l =
-        line-is fault.Cycle (H .nodes)
-        (least-same
-        (λ q h p. cycle (back-cycle (H .edges) (H .edge) t (H .nodes) (ruled-below H r)
-        (r .few-nodes) up long s sole q h p))
-        (λ q h p. cycle-back (H .edges) (H .edge) t (H .nodes) (ruled-below H r) (r .few-nodes) up long s sole q h
-        (cycle-of H t p)) l)
+  pub dangling-found : x ≡ least (λ j. isStray up t Target (refAt rs j)) k → Finds n rs k t up kind.Dangling x
+  dangling-found e =
+      record { place = λ start es m c. test-is (c .seen) kind.Dangling _ (stray-tells (c .seen) Target) e }
 
-    -- the answers after GAP, each by what the code has found on its way to it
-    module _ {o : ℕ} (lo : Least (Parts up (H .nodes)) (H .nodes) o) where
-      pub on-outside : o < H .nodes → Faulty t (fault.Outside o) ≡ afterGap H t
-      unfolding afterGap
-      on-outside h = simp (← outside-line lo, lt-ltb _ _ h)
+-- a rung of the ladder: a fault was found, or the kinds after it answer
+module _ {n : ℕ} {rs : List ℕ} {k t : ℕ} {up : List ℕ} {kind : Kind} {x : ℕ} (f : Finds n rs k t up kind x)
+    {kinds : List Kind} {a : Answer} where
+  pub rest-found : ((start : ℕ) (es : List ℕ) (m : ℕ) → x < places (historyOf start n es m rs k) kind)
+      → a ≡ Faulty t (fault kind x) → Rest n rs k t up (kind ∷ kinds) a
+  rest-found h e =
+      record { answer = λ start es m c. e ∙ say-found _ t kind (f .place start es m c) kinds (h start es m) }
 
-      module _ (ho : H .nodes ≤ o) {b : ℕ} (lb : Least (Back up (H .nodes)) (H .nodes) b) where
-        pub on-cycle : b < H .nodes → Faulty t (fault.Cycle b) ≡ afterGap H t
-        unfolding afterGap
-        on-cycle h = simp (← outside-line lo, le-ltb _ _ ho, ← cycle-line lb, lt-ltb _ _ h)
+  pub rest-on : ((start : ℕ) (es : List ℕ) (m : ℕ) → places (historyOf start n es m rs k) kind ≤ x)
+      → Rest n rs k t up kinds a → Rest n rs k t up (kind ∷ kinds) a
+  rest-on h r =
+      record {
+        answer = λ start es m c.
+            say-on _ t kind (f .place start es m c) kinds (h start es m) (r .answer start es m c);
+      }
 
-        module _ (hb : H .nodes ≤ b) {l : ℕ}
-            (el : l ≡ least (λ j. isAstray up t (H .ref j) (H .ref j .attribute)) (H .refs)) where
-          pub on-late : l < H .refs → Faulty t (fault.Late l) ≡ afterGap H t
-          unfolding afterGap
-          on-late h =
-              simp (← outside-line lo, le-ltb _ _ ho, ← cycle-line lb, le-ltb _ _ hb, ← late-line el, lt-ltb _ _ h)
-
-          module _ (hl : H .refs ≤ l) {d : ℕ}
-              (ed : d ≡ least (λ j. isAstray up t (H .ref j) (H .ref j .target)) (H .refs)) where
-            pub on-dangling : d < H .refs → Faulty t (fault.Dangling d) ≡ afterGap H t
-            unfolding afterGap
-            on-dangling h =
-                simp (
-                  ← outside-line lo,
-                  le-ltb _ _ ho,
-                  ← cycle-line lb,
-                  le-ltb _ _ hb,
-                  ← late-line el,
-                  le-ltb _ _ hl,
-                  ← dangling-line ed,
-                  lt-ltb _ _ h,
-                )
-
-            pub on-nothing : H .refs ≤ d → passed ≡ afterGap H t
-            unfolding afterGap
-            on-nothing h =
-                simp (
-                  ← outside-line lo,
-                  le-ltb _ _ ho,
-                  ← cycle-line lb,
-                  le-ltb _ _ hb,
-                  ← late-line el,
-                  le-ltb _ _ hl,
-                  ← dangling-line ed,
-                  le-ltb _ _ h,
-                )
-
-  -- the answers with GAP, and with GAP set aside
-  module _ {x : ℕ} (ex : x ≡ least (isMany up) (H .nodes)) where
-    pub shown-overlap : x < H .nodes → Faulty t (fault.Overlap x) ≡ shownSay H t
-    unfolding shownSay
-    shown-overlap h = simp (← overlap-line ex, lt-ltb _ _ h)
-
-    pub shown-rest : H .nodes ≤ x → {a : Answer} → a ≡ afterGap H t → a ≡ shownSay H t
-    unfolding shownSay
-    shown-rest h e = simp (← overlap-line ex, le-ltb _ _ h) e
-
-    pub on-overlap : x < H .nodes → Faulty t (fault.Overlap x) ≡ faultsSay H t
-    unfolding faultsSay
-    on-overlap h = simp (← overlap-line ex, lt-ltb _ _ h)
-
-    module _ (now : t ≤ Now) (hx : H .nodes ≤ x) (first last : List ℕ) (enough : H .nodes ≤ length first)
-        (stays : Stays (H .edge) (H .edges) first last) {g : ℕ}
-        (eg : g ≡ least (isGap up first last t) (H .nodes)) where
-      pub on-gap : g < H .nodes → Faulty t (fault.Gap g) ≡ faultsSay H t
-      unfolding faultsSay
-      on-gap h = simp (← overlap-line ex, le-ltb _ _ hx, ← gap-line now first last enough stays eg, lt-ltb _ _ h)
-
-      pub on-rest : H .nodes ≤ g → {a : Answer} → a ≡ afterGap H t → a ≡ faultsSay H t
-      unfolding faultsSay
-      on-rest h e = simp (← overlap-line ex, le-ltb _ _ hx, ← gap-line now first last enough stays eg, le-ltb _ _ h) e
+pub rest-none : {n : ℕ} {rs : List ℕ} {k t : ℕ} {up : List ℕ} → Rest n rs k t up [] passed
+unfolding say
+rest-none = record { answer = λ start es m c. refl }

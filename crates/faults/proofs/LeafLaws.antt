@@ -11,56 +11,71 @@ use Rattle.ground.specs.Tests.{Tells}
 use Rattle.ground.proofs.TestLaws.{tells-and, tells-not, tells-lt, tells-eq}
 use Rattle.tables.specs.Instants.{Now}
 use Rattle.tables.specs.Rows.{noNode, Edge}
-use Rattle.tables.specs.Rules.{mostNodes}
-use Rattle.history.specs.Faults.{Into, Out, Ended, Coming, NoneInto, Chain, Overlap, Gap, Outside, Cycle, Below}
-use Rattle.faults.specs.Slots.{Many, Slot, empty, single, several, Leads, Slots}
+use Rattle.tables.specs.Sizes.{mostNodes}
+use Rattle.history.specs.Faults.{
+  Into,
+  Out,
+  Ended,
+  Coming,
+  NoneInto,
+  Chain,
+  Overlap,
+  Gap,
+  Outside,
+  Cycle,
+  Leads,
+  NodesBelow,
+}
+use Rattle.history.proofs.ComputedLaws.{leads-into, into-leads}
+use Rattle.faults.specs.Slots.{Many, Slot, empty, single, several, Slots}
 use Rattle.faults.specs.Stays.{Stay}
 use Rattle.faults.specs.Walks.{above, climb, Back}
 use Rattle.faults.specs.Leaves.{isMany, isAbsent, isGap, Parts}
 use Rattle.faults.proofs.WalkLaws.{above-in, climb-none, climb-suc, climb-stays}
 
-module _ (m : ℕ) (E : ℕ → Edge) (t n : ℕ) (b : Below m E n) (few : n ≤ mostNodes) (up : List ℕ) (long : n ≤ length up)
-    (s : Slots E t m up) where
-  into-of : (c j : ℕ) → j < m → Leads E t c j → Into m E t c j
-  into-of c j h x = record { row = h; into = x .0; force = x .1 }
+-- the slots of n nodes after all m rows: what the leaves see of an instant
+pub record View (m : ℕ) (E : ℕ → Edge) (t n : ℕ) (up : List ℕ) : Type 0 where
+  pub below : NodesBelow m E n
+  pub few : n ≤ mostNodes
+  pub long : n ≤ length up
+  pub slots : Slots E t m up
 
-  leads-of : (c j : ℕ) → Into m E t c j → Leads E t c j
-  leads-of c j p = (p .into, p .force)
-
+module _ {m : ℕ} {E : ℕ → Edge} {t n : ℕ} {up : List ℕ} (v : View m E t n up) where
   small : (j : ℕ) → j < m → E j .parent < Many
-  small j h = omega (arith, b j h .0)
+  small j h = omega (arith, v .below j h .0, v .few)
 
   -- what a slot says
   none-into : (c : ℕ) → c < length up → getD up c 0 ≡ noNode → NoneInto m E t c
-  none-into c l e = go (s c l)
+  none-into c l e = go (v .slots c l)
     where
       go : Slot (Leads E t c) (λ j. E j .parent) m (getD up c 0) → NoneInto m E t c
-      go (empty q f) = λ j p. f j (p .row) (leads-of c j p)
+      go (empty q f) = λ j p. f j (p .row) (into-leads m E t c j p)
       go (single j h x q u) = absurd (omega (arith, small j h))
       go (several q j k h l x y) = absurd (omega arith)
 
   into-none : (c : ℕ) → c < length up → NoneInto m E t c → getD up c 0 ≡ noNode
-  into-none c l f = go (s c l)
+  into-none c l f = go (v .slots c l)
     where
       go : Slot (Leads E t c) (λ j. E j .parent) m (getD up c 0) → getD up c 0 ≡ noNode
       go (empty q g) = q
-      go (single j h x q u) = absurd (f j (into-of c j h x))
-      go (several q j k h l x y) = absurd (f k (into-of c k l y))
+      go (single j h x q u) = absurd (f j (leads-into m E t c j h x))
+      go (several q j k h l x y) = absurd (f k (leads-into m E t c k l y))
 
   many-into : (c : ℕ) → c < length up → getD up c 0 ≡ Many → Overlap m E t c
-  many-into c l e = go (s c l)
+  many-into c l e = go (v .slots c l)
     where
       go : Slot (Leads E t c) (λ j. E j .parent) m (getD up c 0) → Overlap m E t c
       go (empty q f) = absurd (omega arith)
       go (single j h x q u) = absurd (omega (arith, small j h))
-      go (several q j k h l x y) = (j, k, h, into-of c j (omega arith) x, into-of c k l y)
+      go (several q j k h l x y) = (j, k, h, leads-into m E t c j (omega arith) x, leads-into m E t c k l y)
 
   into-many : (c : ℕ) → c < length up → Overlap m E t c → getD up c 0 ≡ Many
-  into-many c l (i, j, h, p, q) = go (s c l)
+  into-many c l (i, j, h, p, q) = go (v .slots c l)
     where
       go : Slot (Leads E t c) (λ j. E j .parent) m (getD up c 0) → getD up c 0 ≡ Many
-      go (empty e f) = absurd (f i (p .row) (leads-of c i p))
-      go (single k g x e u) = absurd (omega (arith, u i (p .row) (leads-of c i p), u j (q .row) (leads-of c j q)))
+      go (empty e f) = absurd (f i (p .row) (into-leads m E t c i p))
+      go (single k g x e u) =
+          absurd (omega (arith, u i (p .row) (into-leads m E t c i p), u j (q .row) (into-leads m E t c j q)))
       go (several e k k′ g g′ x y) = e
 
   pub many-tells : (c : ℕ) → c < n → Tells (isMany up c) (Overlap m E t c)
@@ -79,14 +94,14 @@ module _ (m : ℕ) (E : ℕ → Edge) (t n : ℕ) (b : Below m E n) (few : n ≤
     ended-row j h e l = go (decLe t (E j .to))
       where
         go : Dec (t ≤ E j .to) → E j .to < t
-        go (yes g) = absurd (away j (into-of c j h (e, (omega arith, g))))
+        go (yes g) = absurd (away j (leads-into m E t c j h (e, (omega arith, g))))
         go (no g) = omega arith
 
     coming-row : (j : ℕ) → j < m → E j .child ≡ c → t < E j .to → t < E j .from
     coming-row j h e l = go (decLe (E j .from) t)
       where
         go : Dec (E j .from ≤ t) → t < E j .from
-        go (yes g) = absurd (away j (into-of c j h (e, (g, omega arith))))
+        go (yes g) = absurd (away j (leads-into m E t c j h (e, (g, omega arith))))
         go (no g) = omega arith
 
     first-ended : (first < t) ↔ ((i : ℕ) × Ended m E t c i)
@@ -117,7 +132,7 @@ module _ (m : ℕ) (E : ℕ → Edge) (t n : ℕ) (b : Below m E n) (few : n ≤
 
   -- OUTSIDE: an absent node that is a slot has a row out of it
   part-out : (c x : ℕ) → c < n → x < n → getD up c 0 ≡ x → (i : ℕ) × Out m E t x i
-  part-out c x l h e = go (s c (omega arith))
+  part-out c x l h e = go (v .slots c (omega (arith, v .long)))
     where
       go : Slot (Leads E t c) (λ j. E j .parent) m (getD up c 0) → (i : ℕ) × Out m E t x i
       go (empty q f) = absurd (omega arith)
@@ -129,18 +144,19 @@ module _ (m : ℕ) (E : ℕ → Edge) (t n : ℕ) (b : Below m E n) (few : n ≤
 
   -- where no two rows lead into one node, a node's slot is the parent of its row
   module _ (sole : (c : ℕ) → Overlap m E t c → ⊥) where
-    slot-row : (c j : ℕ) → c < n → Into m E t c j → getD up c 0 ≡ E j .parent
-    slot-row c j l p = go (s c (omega arith))
+    pub slot-row : (c j : ℕ) → c < n → Into m E t c j → getD up c 0 ≡ E j .parent
+    slot-row c j l p = go (v .slots c (omega (arith, v .long)))
       where
         go : Slot (Leads E t c) (λ j. E j .parent) m (getD up c 0) → getD up c 0 ≡ E j .parent
-        go (empty q f) = absurd (f j (p .row) (leads-of c j p))
-        go (single k g x q u) = q ∙ ap (λ y. E y .parent) (sym (u j (p .row) (leads-of c j p)))
-        go (several q k k′ g g′ x y) = absurd (sole c (k, k′, g, into-of c k (omega arith) x, into-of c k′ g′ y))
+        go (empty q f) = absurd (f j (p .row) (into-leads m E t c j p))
+        go (single k g x q u) = q ∙ ap (λ y. E y .parent) (sym (u j (p .row) (into-leads m E t c j p)))
+        go (several q k k′ g g′ x y) =
+            absurd (sole c (k, k′, g, leads-into m E t c k (omega arith) x, leads-into m E t c k′ g′ y))
 
     pub outside-parts : (x : ℕ) → Outside m E t x → Parts up n x
     outside-parts x (ne, (i, o), away) =
-        let l : x < n = omega (arith, b i (o .row) .0, o .out) in
-        let c : E i .child < n = b i (o .row) .1 in (
+        let l : x < n = omega (arith, v .below i (o .row) .0, o .out) in
+        let c : E i .child < n = v .below i (o .row) .1 in (
           absent-tells x l .1 (ne, away),
           (
             E i .child,
@@ -150,8 +166,8 @@ module _ (m : ℕ) (E : ℕ → Edge) (t n : ℕ) (b : Below m E n) (few : n ≤
           ),
         )
 
-    row-slot : (c : ℕ) → c < n → above up n c < n → (j : ℕ) × Into m E t c j × (above up n c ≡ E j .parent)
-    row-slot c l h = go (s c (omega arith))
+    pub row-slot : (c : ℕ) → c < n → above up n c < n → (j : ℕ) × Into m E t c j × (above up n c ≡ E j .parent)
+    row-slot c l h = go (v .slots c (omega (arith, v .long)))
       where
         at : above up n c ≡ getD up c 0
         at = above-in up n c l
@@ -159,17 +175,17 @@ module _ (m : ℕ) (E : ℕ → Edge) (t n : ℕ) (b : Below m E n) (few : n ≤
         go : Slot (Leads E t c) (λ j. E j .parent) m (getD up c 0)
             → (j : ℕ) × Into m E t c j × (above up n c ≡ E j .parent)
         go (empty q f) = absurd (omega (arith, at))
-        go (single j g x q u) = (j, into-of c j g x, at ∙ q)
+        go (single j g x q u) = (j, leads-into m E t c j g x, at ∙ q)
         go (several q j k g g′ x y) = absurd (omega (arith, at))
 
     -- CYCLE: a chain is a walk up, and the other way round
-    chain-climb : (a c : ℕ) (is : List ℕ) → c < n → Chain m E t a c is → climb up n (length is) c ≡ a
+    pub chain-climb : (a c : ℕ) (is : List ℕ) → c < n → Chain m E t a c is → climb up n (length is) c ≡ a
     chain-climb a c [] l p = climb-none up n c ∙ sym p
     chain-climb a c (i ∷ is) l p =
         climb-suc up n (length is) c ∙ ap (climb up n (length is)) (above-in up n c l ∙ slot-row c i l (p .0))
-        ∙ chain-climb a (E i .parent) is (b i (p .0 .row) .0) (p .1)
+        ∙ chain-climb a (E i .parent) is (v .below i (p .0 .row) .0) (p .1)
 
-    climb-chain : (k a c : ℕ) → a < n → c < n → climb up n k c ≡ a
+    pub climb-chain : (k a c : ℕ) → a < n → c < n → climb up n k c ≡ a
         → (is : List ℕ) × Chain m E t a c is × (length is ≡ k)
     climb-chain zero a c la lc e = ([], sym e ∙ climb-none up n c, refl)
     climb-chain (suc k) a c la lc e = go (decLe n (above up n c)) (climb-chain k a)
@@ -189,7 +205,7 @@ module _ (m : ℕ) (E : ℕ → Edge) (t n : ℕ) (b : Below m E n) (few : n ≤
             ))
         go (no o) ih =
             let (j, p, q) = row-slot c lc (omega arith) in
-            let (is, x, r) = ih (E j .parent) la (b j (p .row) .0) (rw q at up-one) in
+            let (is, x, r) = ih (E j .parent) la (v .below j (p .row) .0) (rw q at up-one) in
             (j ∷ is, (p, x), ap suc r)
 
     pub back-cycle : (c : ℕ) → c < n → Back up n c → Cycle m E t c

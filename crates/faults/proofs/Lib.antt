@@ -2,7 +2,6 @@ pub mod SlotLaws
 pub mod StayLaws
 pub mod WalkLaws
 pub mod MarkLaws
-pub mod UntilLaws
 pub mod PartLaws
 pub mod LeafLaws
 pub mod JudgeLaws

@@ -5,11 +5,14 @@ use mathlib.Core.List.{List, [], _∷_}
 use Prim.Native.Nat.{ℕ, zero, suc, _+_, _≤_, _<_}
 use native.Mathlib.Decide.{ℕ-discrete}
 use native.Mathlib.Omega.{arith}
-use lib.ListN.{length, getD, set, replicate, getD-replicate, length-set}
+use borrow.Author.Count.{below-more}
+use lib.ListN.{length, getD, set, replicate, getD-replicate, length-replicate, length-set}
 use lib.Seq.{getD-set-same, getD-set-other}
+use Rattle.tables.specs.Rows.{noNode}
+use Rattle.tables.specs.Sizes.{mostNodes}
 use Rattle.faults.specs.Walks.{above, climb}
-use Rattle.faults.specs.Marks.{Ends, SomeBack, Done, Kept, Walked}
-use Rattle.faults.proofs.WalkLaws.{above-in, climb-none, climb-add, climb-one, climb-next}
+use Rattle.faults.specs.Marks.{Ends, NoBack, SomeBack, Done, Kept, Walked}
+use Rattle.faults.proofs.WalkLaws.{above-in, climb-none, climb-add, climb-one, climb-next, ends-no-back}
 
 -- how many elements are 0: it falls with each mark
 unfoldable pub zeros : List ℕ → ℕ
@@ -52,7 +55,12 @@ module _ (up : List ℕ) (n : ℕ) where
     pub kept : Kept up n old mark
     pub from : (x ≡ start) ⊎ (getD mark start 0 ≡ 0 → ⊥)
 
-  module _ (start : ℕ) (old : List ℕ) where
+  -- the loop holds the walk's mark in stamp
+  pub record Stamping (start stamp : ℕ) (old mark : List ℕ) (x : ℕ) : Type 0 where
+    pub stamped : stamp ≡ start + 1
+    pub walking : Walking start old mark x
+
+  module _ {start : ℕ} {old : List ℕ} where
     pub walk-starts : Done up n start old → Walking start old old start
     walk-starts d =
         record {
@@ -64,7 +72,7 @@ module _ (up : List ℕ) (n : ℕ) where
         }
 
     -- x is not marked: it is marked, and the walk goes on above it
-    module _ (mark : List ℕ) (x : ℕ) (lx : x < n) (lm : n ≤ length mark) (w : Walking start old mark x) where
+    module _ {mark : List ℕ} {x : ℕ} (w : Walking start old mark x) (lx : x < n) (lm : n ≤ length mark) where
       same : getD (set mark x (start + 1)) x 0 ≡ start + 1
       same = getD-set-same mark x (start + 1) 0 (omega arith)
 
@@ -113,9 +121,9 @@ module _ (up : List ℕ) (n : ℕ) where
       walk-meets e = (x, lx, w .ours x lx e)
 
     -- the walk has come to x, whose walk is known to end
-    pub walk-ends : (mark : List ℕ) (x : ℕ) → Walking start old mark x → Ends up n x
+    pub walk-ends : {mark : List ℕ} {x : ℕ} → Walking start old mark x → Ends up n x
         → (x ≡ start → getD mark x 0 ≡ 0 → ⊥) → Walked up n start old mark
-    walk-ends mark x w e f =
+    walk-ends {mark} {x} w e f =
         record {
           done = λ k l z. all k l z (ℕ-discrete (getD mark k 0)
               (start + 1));
@@ -132,6 +140,32 @@ module _ (up : List ℕ) (n : ℕ) where
         here (inl g) q = f g (ap (λ y. getD mark y 0) g ∙ q)
         here (inr g) q = g q
 
-  -- before the first walk nothing is marked
-  pub marks-none : (c : ℕ) → n ≤ c → Done up n 0 (replicate c 0)
-  marks-none c h k l z = absurd (z (getD-replicate c k 0 0 (omega arith)))
+  -- between two walks: those from the nodes below start have been made
+  pub record Settling (start : ℕ) (mark : List ℕ) : Type 0 where
+    pub within : start ≤ n
+    pub long : length mark ≡ mostNodes
+    pub done : Done up n start mark
+    pub marked : (k : ℕ) → k < start → getD mark k 0 ≡ 0 → ⊥
+
+  pub settling-starts : n ≤ mostNodes → Settling 0 (replicate mostNodes 0)
+  settling-starts few =
+      record {
+        within = omega arith;
+        long = length-replicate {A = ℕ} mostNodes 0;
+        done = λ k l z. absurd (z (getD-replicate mostNodes k 0 0 (omega arith)));
+        marked = λ k l. absurd (omega arith);
+      }
+
+  module _ {start : ℕ} {old : List ℕ} (s : Settling start old) where
+    pub settling-on : start < n → {mark : List ℕ} → length mark ≡ length old → Walked up n start old mark
+        → Settling (start + 1) mark
+    settling-on h e w =
+        record {
+          within = omega arith;
+          long = e ∙ s .long;
+          done = w .done;
+          marked = below-more _ _ (λ k l. w .kept k (omega arith) (s .marked k l)) (w .here);
+        }
+
+    pub settling-ends : n ≤ noNode → n ≤ start → NoBack up n
+    settling-ends few h k l = ends-no-back up n few k l (s .done k l (s .marked k (omega arith)) .0)

@@ -12,12 +12,12 @@ use lib.Seq.{getD-set-same, getD-set-other}
 use Rattle.ground.proofs.LeastLaws.{before-more}
 use Rattle.ground.proofs.TestLaws.{tells-fail}
 use Rattle.tables.specs.Instants.{During, during}
-use Rattle.tables.specs.Rows.{noNode, Edge}
-use Rattle.tables.specs.Rules.{mostNodes}
+use Rattle.tables.specs.Rows.{noNode, Edge, edgeAt}
+use Rattle.tables.specs.Sizes.{mostNodes}
 use Rattle.tables.proofs.LabelLaws.{during-tells}
-use Rattle.history.specs.History.{History, Ruled}
-use Rattle.history.specs.Faults.{Below}
-use Rattle.faults.specs.Slots.{Many, Slot, empty, single, several, Leads, Slots}
+use Rattle.history.specs.History.{LentRows}
+use Rattle.history.specs.Faults.{Leads}
+use Rattle.faults.specs.Slots.{Many, Slot, empty, single, several, Slots, Taking, Fit, Blank, Fresh}
 
 module _ (L : ℕ → Type 0) (value : ℕ → ℕ) (i v : ℕ) where
   last-or : (k : ℕ) → k < i + 1 → (k ≡ i) ⊎ (k < i)
@@ -63,42 +63,64 @@ module _ (E : ℕ → Edge) (t i : ℕ) (up : List ℕ) where
           rw (getD-set-other up (E i .child) c v 0 e)
           (slot-skip (Leads E t c) (λ j. E j .parent) i (getD up c 0) (λ y. e (sym (y .0))) (s c inside))
 
--- the nodes of a loop's rows, for its turn i
-pub below-part : (m : ℕ) (E : ℕ → Edge) (n i n′ : ℕ) → Below m E n → i < m → n′ ≡ n → Below (i + 1) E n′
-below-part m E n i n′ b h e j l = omega (arith, b j (omega arith))
-
 -- the nodes of a history's rows are below any number that is no smaller than their count
-pub below-wide : (H : History) → Ruled H → (n : ℕ) → H .nodes ≤ n → Below (H .edges) (H .edge) n
-below-wide H r n l i h = omega (arith, r .edge-ruled i h .parent, r .edge-ruled i h .child)
+pub lent-fit : {start n m k : ℕ} {es rs : List ℕ} → LentRows start n es m rs k → (w : ℕ) → n ≤ w → Fit es m w
+lent-fit l w h =
+    record {
+      rows = l .edge-rows;
+      nodes =
+          λ i g. let e = l .ruled .edge-ruled i g in
+          (omega (arith, e .parent), omega (arith, e .child));
+    }
+
+-- before turn i of a pass that began with the slots up₀
+pub taking : {es up₀ up : List ℕ} {t m i : ℕ} → Blank es t m up₀ → length up ≡ length up₀ → i < m
+    → Slots (edgeAt es) t i up → Taking es t i up
+taking b e h s =
+    record {
+      row = omega (arith, b .fit .rows);
+      inside = omega (arith, b .fit .nodes _ h);
+      small = λ j l. omega (arith, b .fit .nodes j (omega arith), b .few);
+      slots = s;
+    }
 
 -- the same by what the code has read of row i
-module _ (E : ℕ → Edge) (t i : ℕ) (up : List ℕ) (s : Slots E t i up) where
-  pub take-none : during (E i .from) (E i .to) t ≡ false → Slots E t (i + 1) up
-  take-none e = slots-skip E t i up (tells-fail (during-tells (E i .from) (E i .to) t) e) s
+module _ {es : List ℕ} {t i : ℕ} (up : List ℕ) (r : Taking es t i up) where
+  pub take-none : during (edgeAt es i .from) (edgeAt es i .to) t ≡ false → Slots (edgeAt es) t (i + 1) up
+  take-none e = slots-skip (edgeAt es) t i up (tells-fail (during-tells _ _ t) e) (r .slots)
 
-  module _ (b : Below (i + 1) E (length up)) (few : length up ≤ mostNodes)
-      (f : during (E i .from) (E i .to) t ≡ true) {c : ℕ} (ec : c ≡ E i .child) where
-    small : (j : ℕ) → j < i → E j .parent < Many
-    small j h = omega (arith, b j (omega arith) .0)
+  module _ (f : during (edgeAt es i .from) (edgeAt es i .to) t ≡ true) {c : ℕ} (ec : c ≡ edgeAt es i .child) where
+    here : Leads (edgeAt es) t (edgeAt es i .child) i
+    here = (refl, during-tells _ _ t .0 f)
 
-    here : Leads E t (E i .child) i
-    here = (refl, during-tells (E i .from) (E i .to) t .0 f)
-
-    pub take-first : {p : ℕ} → p ≡ E i .parent → getD up c 0 ≡ noNode → Slots E t (i + 1) (set up c p)
+    pub take-first : {p : ℕ} → p ≡ edgeAt es i .parent → getD up c 0 ≡ noNode → Slots (edgeAt es) t (i + 1) (set up c p)
     take-first ep e =
         rw (ec, ep)
-        (slots-set E t i up (E i .parent) (b i (omega arith) .1)
-        (slot-first _ (λ j. E j .parent) i (getD up (E i .child) 0) small here (rw ec at e)
-        (s (E i .child) (b i (omega arith) .1))) s)
+        (slots-set (edgeAt es) t i up (edgeAt es i .parent) (r .inside)
+        (slot-first _ (λ j. edgeAt es j .parent) i (getD up (edgeAt es i .child) 0) (r .small) here (rw ec at e)
+        (r .slots (edgeAt es i .child) (r .inside))) (r .slots))
 
-    pub take-more : (getD up c 0 ≡ noNode → ⊥) → Slots E t (i + 1) (set up c Many)
+    pub take-more : (getD up c 0 ≡ noNode → ⊥) → Slots (edgeAt es) t (i + 1) (set up c Many)
     take-more f =
         rw ec
-        (slots-set E t i up Many (b i (omega arith) .1)
-        (slot-more _ (λ j. E j .parent) i (getD up (E i .child) 0) small here (rw ec at f)
-        (s (E i .child) (b i (omega arith) .1))) s)
+        (slots-set (edgeAt es) t i up Many (r .inside)
+        (slot-more _ (λ j. edgeAt es j .parent) i (getD up (edgeAt es i .child) 0) (r .small) here (rw ec at f)
+        (r .slots (edgeAt es i .child) (r .inside))) (r .slots))
 
 -- slots that are all noNode are those of no row
-pub slots-none : (E : ℕ → Edge) (t n : ℕ) → Slots E t 0 (replicate n noNode)
-slots-none E t n c h =
-    empty (getD-replicate n c noNode 0 (omega (arith, length-replicate n noNode))) (λ j l. absurd (omega arith))
+pub fresh : {n : ℕ} → n ≤ mostNodes → Fresh n (replicate mostNodes noNode)
+fresh h =
+    record {
+      long = omega (arith, length-replicate mostNodes noNode);
+      few = omega (arith, length-replicate mostNodes noNode);
+      blank = λ c l. getD-replicate mostNodes c noNode 0 (omega (arith, length-replicate mostNodes noNode));
+    }
+
+pub lent-blank : {start n m k : ℕ} {es rs up : List ℕ} → LentRows start n es m rs k → Fresh n up → (t : ℕ)
+    → Blank es t m up
+lent-blank l f t =
+    record {
+      fit = lent-fit l _ (f .long);
+      few = f .few;
+      slots = λ c h. empty (f .blank c h) (λ j g. absurd (omega arith));
+    }

@@ -12,8 +12,8 @@ use Rattle.ground.specs.Least.{Any}
 use Rattle.tables.specs.declared.label.Label.{Label}
 use Rattle.tables.specs.Instants.{Now, instantOf, labelOf}
 use Rattle.tables.proofs.LabelLaws.{instant-end}
-use Rattle.tables.specs.Rows.{Edge}
-use Rattle.faults.specs.Stays.{Stay, Stays}
+use Rattle.tables.specs.Rows.{Edge, edgeAt}
+use Rattle.faults.specs.Stays.{Stay, Stays, Noting, Bare}
 
 module _ (E : ℕ → Edge) (c i first last : ℕ) where
   last-or : (k : ℕ) → k < i + 1 → (k ≡ i) ⊎ (k < i)
@@ -86,13 +86,24 @@ stays-none E n c h =
       ends = inl (getD-replicate n c 0 0 (omega (arith, length-replicate n Now)));
     }
 
+-- before turn i of a pass that began with the bounds first₀ and last₀
+pub noting : {es first₀ last₀ first last : List ℕ} {m i : ℕ} → Bare es m first₀ last₀ → length first ≡ length first₀
+    → length last ≡ length last₀ → i < m → Stays (edgeAt es) i first last → Noting es i first last
+noting b e q h s =
+    record {
+      row = omega (arith, b .fit .rows);
+      inside = omega (arith, b .fit .nodes _ h);
+      same = omega (arith, b .same);
+      stays = s;
+    }
+
 -- the same by what the code has read of row i
-pub stays-note : (E : ℕ → Edge) (i : ℕ) (first last : List ℕ) {c v w e : ℕ} {l : Label} → length first ≡ length last
-    → E i .child < length first
-    → c ≡ E i .child → l ≡ labelOf (E i .from) (E i .to) → v ≡ min (getD first c 0) (l .from) → e ≡ instantOf (l .end)
-    → w ≡ max (getD last c 0) e
-    → Stays E i first last → Stays E (i + 1) (set first c v) (set last c w)
-stays-note E i first last {c} {v} {w} {e} {l} same inside ec el ev ee ew s =
-    let q : e ≡ E i .to = ee ∙ ap (λ (x : Label). instantOf (x .end)) el ∙ instant-end (E i .to) in
-    let f : l .from ≡ E i .from = ap (λ (x : Label). x .from) el in
-    rw ec (stays-set E i first last same inside (rw (ec, f) at ev) (rw (ec, q) at ew) s)
+pub stays-note : {es : List ℕ} {i : ℕ} (first last : List ℕ) {c v w e : ℕ} {l : Label} → Noting es i first last
+    → c ≡ edgeAt es i .child → l ≡ labelOf (edgeAt es i .from) (edgeAt es i .to)
+    → v ≡ min (getD first c 0) (l .from) → e ≡ instantOf (l .end) → w ≡ max (getD last c 0) e
+    → Stays (edgeAt es) (i + 1) (set first c v) (set last c w)
+stays-note {es} {i} first last {c} {v} {w} {e} {l} n ec el ev ee ew =
+    let q : e ≡ edgeAt es i .to = ee ∙ ap (λ (x : Label). instantOf (x .end)) el ∙ instant-end (edgeAt es i .to) in
+    let f : l .from ≡ edgeAt es i .from = ap (λ (x : Label). x .from) el in
+    rw ec
+    (stays-set (edgeAt es) i first last (n .same) (n .inside) (rw (ec, f) at ev) (rw (ec, q) at ew) (n .stays))

@@ -1,17 +1,25 @@
 -- Walking up by the slots: a walk that has left the nodes stays away, and one that comes back does so within n steps.
 -- Assumes nothing.
 use mathlib.Core.Path.{_≡_, refl, sym, ap, _∙_, subst}
+use mathlib.Core.Bool.{true, false, true≢false, false≢true}
 use mathlib.Core.List.{List}
 use Prim.Native.Nat.{ℕ, zero, suc, _+_, _-_, _≤_, _<_}
 use native.Mathlib.Nat.{zero-add, suc-add}
 use native.Mathlib.Decide.{decLe}
 use native.Mathlib.Omega.{arith}
 use lib.ListN.{getD}
+use borrow.Author.Count.{below-more}
 use borrow.Author.Tests.{lt-ltb, le-ltb}
 use Rattle.ground.proofs.Pigeonhole.{pigeonhole}
 use Rattle.tables.specs.Rows.{noNode}
-use Rattle.faults.specs.Walks.{above, climb, Back}
+use Rattle.faults.specs.Walks.{above, climb, Back, Means}
 use Rattle.faults.specs.Marks.{Ends}
+
+pub means-true : {P Q : Type 0} → P → Means true P Q
+means-true p = record { passed = λ e. p; failed = λ e. absurd (true≢false e) }
+
+pub means-false : {P Q : Type 0} → Q → Means false P Q
+means-false q = record { passed = λ e. absurd (false≢true e); failed = λ e. q }
 
 module _ (up : List ℕ) (n : ℕ) where
   pub above-in : (b : ℕ) → b < n → above up n b ≡ getD up b 0
@@ -94,18 +102,6 @@ module _ (up : List ℕ) (n : ℕ) where
       back-soon : Back up n c → (j : ℕ) × (j < n) × (climb up n (suc j) c ≡ c)
       back-soon (k, e) = within (suc k) k (omega arith) e
 
-      -- what a walk of k + 1 steps that was never at c has shown: it has left the nodes, or it is n steps long
-      pub back-left : (k : ℕ) → ((j : ℕ) → j < k → climb up n (suc j) c ≡ c → ⊥) → n ≤ climb up n (suc k) c
-          → Back up n c → ⊥
-      back-left k f o (j, e) = go (decLe k j)
-        where
-          go : Dec (k ≤ j) → ⊥
-          go (yes g) = omega (arith, climb-stays (suc k) (suc j) c (omega arith) o)
-          go (no g) = f j (omega arith) e
-
-      pub back-none : (k : ℕ) → ((j : ℕ) → j < k → climb up n (suc j) c ≡ c → ⊥) → n ≤ k → Back up n c → ⊥
-      back-none k f g b = let (j, h, e) = back-soon b in f j (omega arith) e
-
       far : Back up n c → (d : ℕ) → (e : ℕ) × (d ≤ e) × (climb up n e c ≡ c)
       far b zero = (0, omega arith, climb-none c)
       far b (suc d) =
@@ -116,11 +112,37 @@ module _ (up : List ℕ) (n : ℕ) where
       pub ends-no-back : Ends up n c → Back up n c → ⊥
       ends-no-back (d, o) b = let (e, h, q) = far b d in omega (arith, climb-stays d e c h o)
 
-  -- the steps of the loop that walks up from c
-  pub walk-first : (c : ℕ) → c < n → getD up c 0 ≡ climb up n (suc 0) c
-  walk-first c l = sym (climb-one c ∙ above-in c l)
+  -- within the loop that walks up from c: it has come to x in k + 1 steps, and was not at c before
+  pub record Climbing (c x k : ℕ) : Type 0 where
+    pub within : k ≤ n
+    pub at : x ≡ climb up n (suc k) c
+    pub never : (j : ℕ) → j < k → climb up n (suc j) c ≡ c → ⊥
 
-  pub walk-more : (c k x : ℕ) → x < n → x ≡ climb up n (suc k) c → getD up x 0 ≡ climb up n (suc (k + 1)) c
-  walk-more c k x l e =
-      let q : suc (suc k) ≡ suc (k + 1) = omega arith in
-      sym (above-in x l) ∙ ap (above up n) e ∙ sym (climb-next (suc k) c) ∙ ap (λ y. climb up n y c) q
+  pub climbing-starts : {c : ℕ} → c < n → Climbing c (getD up c 0) 0
+  climbing-starts {c} l =
+      record { within = omega arith; at = sym (climb-one c ∙ above-in c l); never = λ j h. absurd (omega arith) }
+
+  module _ {c x k : ℕ} (w : Climbing c x k) where
+    pub climbing-on : k < n → x < n → (x ≡ c → ⊥) → Climbing c (getD up x 0) (k + 1)
+    climbing-on h l ne =
+        let q : suc (suc k) ≡ suc (k + 1) = omega arith in
+        record {
+          within = omega arith;
+          at = sym (above-in x l) ∙ ap (above up n) (w .at) ∙ sym (climb-next (suc k) c) ∙ ap (λ y. climb up n y c) q;
+          never = below-more _ _ (w .never) (λ e. ne (w .at ∙ e));
+        }
+
+    pub climbing-back : x ≡ c → Back up n c
+    climbing-back e = (k, sym (w .at) ∙ e)
+
+    module _ (few : n ≤ noNode) (l : c < n) where
+      -- it has left the nodes, or it is n steps long
+      pub climbing-left : n ≤ x → Back up n c → ⊥
+      climbing-left o (j, e) = go (decLe k j)
+        where
+          go : Dec (k ≤ j) → ⊥
+          go (yes g) = omega (arith, climb-stays few (suc k) (suc j) c (omega arith) (rw (w .at) at o))
+          go (no g) = w .never j (omega arith) e
+
+      pub climbing-ends : n ≤ k → Back up n c → ⊥
+      climbing-ends g b = let (j, h, e) = back-soon few c l b in w .never j (omega arith) e

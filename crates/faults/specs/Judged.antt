@@ -1,19 +1,44 @@
--- What the part of the judge after GAP answers.
---   AfterGap   r is the answer of the codes after GAP, of whatever containment rows the slots are, where no node has
---              two of them into it
+-- What the judge of an instant knows, and what it answers.
+--   Seen     the slots are those of a history at t
+--   Clear    and no node has two rows into it
+--   OfAnyHistory   a property of every history of these n nodes and k reference rows, whatever its start and
+--            containment rows, whose slots these are, and where no node has two rows into it
+--   Finds    x is the smallest place of a fault of a kind, of whatever history
+--   Rest     r is the answer of some kinds, of whatever history
+--   Shows    r is the answer with GAP set aside, and the slots are those at t
 -- Assumes nothing.
 use mathlib.Core.Path.{_≡_}
 use mathlib.Core.List.{List}
-use Prim.Native.Nat.{ℕ}
+use Prim.Native.Nat.{ℕ, _≤_}
+use lib.ListN.{length}
+use Rattle.ground.specs.Least.{least}
+use Rattle.answers.specs.declared.Kind.{Kind}
 use Rattle.answers.specs.declared.Answer.{Answer}
-use Rattle.tables.specs.Rows.{edgeAt}
-use Rattle.history.specs.History.{historyOf, Lent}
-use Rattle.history.specs.Faults.{Overlap}
-use Rattle.history.specs.Computed.{afterGap}
+use Rattle.history.specs.History.{History, historyOf, Ruled}
+use Rattle.history.specs.Faults.{Overlap, places}
+use Rattle.history.specs.Computed.{holds, say, shownSay}
 use Rattle.faults.specs.Slots.{Slots}
 
-abbrev pub AfterGap : ℕ → List ℕ → ℕ → ℕ → List ℕ → Answer → Type 0
-AfterGap n rs k t up r =
-    (start : ℕ) (es : List ℕ) (m : ℕ) → Lent start n es m rs k → Slots (edgeAt es) t m up
-    → ((c : ℕ) → Overlap m (edgeAt es) t c → ⊥)
-    → r ≡ afterGap (historyOf start n es m rs k) t
+pub record Seen (H : History) (t : ℕ) (up : List ℕ) : Type 0 where
+  pub ruled : Ruled H
+  pub long : H .nodes ≤ length up
+  pub slots : Slots (H .edge) t (H .edges) up
+
+pub record Clear (H : History) (t : ℕ) (up : List ℕ) : Type 0 where
+  pub seen : Seen H t up
+  pub sole : (c : ℕ) → Overlap (H .edges) (H .edge) t c → ⊥
+
+module _ (n : ℕ) (rs : List ℕ) (k t : ℕ) (up : List ℕ) where
+  abbrev pub OfAnyHistory : (History → Type 0) → Type 0
+  OfAnyHistory P =
+      (start : ℕ) (es : List ℕ) (m : ℕ) → Clear (historyOf start n es m rs k) t up → P (historyOf start n es m rs k)
+
+  pub record Finds (kind : Kind) (x : ℕ) : Type 0 where
+    pub place : OfAnyHistory (λ H. x ≡ least (holds H t kind) (places H kind))
+
+  pub record Rest (kinds : List Kind) (r : Answer) : Type 0 where
+    pub answer : OfAnyHistory (λ H. r ≡ say H t kinds)
+
+pub record Shows (H : History) (t : ℕ) (up : List ℕ) (r : Answer) : Type 0 where
+  pub answer : r ≡ shownSay H t
+  pub slots : Slots (H .edge) t (H .edges) up

@@ -4,4 +4,3 @@ pub mod Walks
 pub mod Marks
 pub mod Leaves
 pub mod Judged
-pub mod Until

@@ -1,52 +1,64 @@
-// The fault at an instant that an answer names: the smallest code, and there the smallest place. A leaf for each code,
-// asked in the order of codes.
+// The fault at an instant that an answer names: the smallest code, and there the smallest place. A leaf for each kind,
+// asked in the order of kinds.
 ghost use mathlib.Core.Path.{_≡_};
-ghost use Prim.Native.Nat.{ℕ, _<_, _≤_};
+ghost use Prim.Native.Nat.{_<_, _≤_};
 ghost use lib.ListN.{length};
-ghost use Rattle.tables.specs.Rows.{edgeAt, refAt, HasRefs};
-ghost use Rattle.tables.specs.Rules.{mostNodes, mostRefs};
-ghost use Rattle.history.specs.History.{historyOf, Lent};
-ghost use Rattle.history.specs.Computed.{faultsSay, shownSay};
-ghost use Rattle.faults.specs.Judged.{AfterGap};
-ghost use Rattle.faults.specs.Stays.{Stays};
-use super::leaves::first_dangling;
+ghost use Rattle.answers.specs.declared.Answer.the-variants.{Faulty};
+ghost use Rattle.answers.specs.Numbers.{afterGap, fault};
+ghost use Rattle.tables.specs.Rows.{noNode, edgeAt};
+ghost use Rattle.tables.specs.Sizes.{mostNodes, mostRefs};
+ghost use Rattle.history.specs.History.{historyOf, LentRows};
+ghost use Rattle.history.specs.Computed.{faultsSay};
+ghost use Rattle.faults.specs.Slots.{Fresh};
+ghost use Rattle.faults.specs.Stays.{Bounds};
+ghost use Rattle.faults.specs.Leaves.{Referring};
+ghost use Rattle.faults.specs.Judged.{Rest, Shows};
 use super::leaves::first_gap;
-use super::leaves::first_late;
 use super::leaves::first_outside;
 use super::leaves::first_overlap;
+use super::leaves::first_stray;
 use super::slots::take_rows;
 use super::walk::first_back;
 use answers::Answer;
 use answers::Fault;
-use tables::judge::MOST_NODES;
+use answers::Kind;
 use tables::rows::NO_NODE;
+use tables::rows::Side;
+use tables::sizes::MOST_NODES;
 
-// The codes after GAP, where no node has two rows into it, of whatever containment rows the slots are.
+fn faulty(t: u32, kind: Kind, place: usize) -> Answer
+    requires { ⌜ place < noNode ⌝ }
+    ensures { λ r. ⌜ r ≡ Faulty t (fault kind place) ⌝ }
+{
+    let row = place as u32;
+    Answer::Faulty(t, Fault::of(kind, row))
+}
+
+// The kinds after GAP, where no node has two rows into it, of whatever containment rows the slots are.
 fn after_gap(n: usize, refs: &[u32], k: usize, t: u32, up: &[u32]) -> Answer
-    requires { ⌜ (n ≤ length (now up)) × (n ≤ mostNodes) × (k ≤ mostRefs) × HasRefs (now refs) k ⌝ }
-    requires { ⌜ ((j : ℕ) → j < k → (refAt (now refs) j .attribute < n) × (refAt (now refs) j .target < n)) ⌝ }
-    ensures { λ r. ⌜ AfterGap n (now (refs .entry)) k t (now (up .entry)) r ⌝ }
+    requires { ⌜ (n ≤ length (now up)) × (n ≤ mostNodes) × (k ≤ mostRefs) × Referring (now refs) k (length (now up)) ⌝ }
+    ensures { λ r. ⌜ Rest n (now (refs .entry)) k t (now (up .entry)) afterGap r ⌝ }
 {
     let outside = first_outside(up, n);
     if outside < n {
-        return Answer::Faulty(t, Fault::Outside(outside as u32));
+        return faulty(t, Kind::Outside, outside);
     }
     let back = first_back(up, n);
     if back < n {
-        return Answer::Faulty(t, Fault::Cycle(back as u32));
+        return faulty(t, Kind::Cycle, back);
     }
-    let late = first_late(refs, k, t, up);
+    let late = first_stray(refs, k, Side::Attribute, t, up);
     if late < k {
-        return Answer::Faulty(t, Fault::Late(late as u32));
+        return faulty(t, Kind::Late, late);
     }
-    let dangling = first_dangling(refs, k, t, up);
+    let dangling = first_stray(refs, k, Side::Target, t, up);
     if dangling < k {
-        return Answer::Faulty(t, Fault::Dangling(dangling as u32));
+        return faulty(t, Kind::Dangling, dangling);
     }
     Answer::Done(0, 0)
 }
 
-// All codes. first and last are the bounds of the nodes' rows.
+// All kinds. first and last are the bounds of the nodes' rows.
 pub fn judge(
     start: u32,
     n: usize,
@@ -58,25 +70,24 @@ pub fn judge(
     last: &[u32],
     t: u32,
 ) -> Answer
-    requires { ⌜ Lent start n (now edges) m (now refs) k ⌝ }
-    requires { ⌜ (n ≤ length (now first)) × (n ≤ length (now last)) × Stays (edgeAt (now edges)) m (now first)
-        (now last) ⌝ }
+    requires { ⌜ LentRows start n (now edges) m (now refs) k ⌝ }
+    requires { ⌜ Bounds m (edgeAt (now edges)) n (now first) (now last) ⌝ }
     ensures { λ r. ⌜ r ≡ faultsSay (historyOf start n (now (edges .entry)) m (now (refs .entry)) k) t ⌝ }
 {
     let mut up = [NO_NODE; MOST_NODES];
     take_rows(edges, m, t, &mut up);
     let overlap = first_overlap(&up, n);
     if overlap < n {
-        return Answer::Faulty(t, Fault::Overlap(overlap as u32));
+        return faulty(t, Kind::Overlap, overlap);
     }
     let gap = first_gap(&up, first, last, n, t);
     if gap < n {
-        return Answer::Faulty(t, Fault::Gap(gap as u32));
+        return faulty(t, Kind::Gap, gap);
     }
     after_gap(n, refs, k, t, &up)
 }
 
-// All codes but GAP, for a snapshot.
+// All kinds but GAP, for a snapshot. It leaves the slots at t.
 pub fn judge_shown(
     start: u32,
     n: usize,
@@ -85,15 +96,16 @@ pub fn judge_shown(
     refs: &[u32],
     k: usize,
     t: u32,
+    up: &mut [u32],
 ) -> Answer
-    requires { ⌜ Lent start n (now edges) m (now refs) k ⌝ }
-    ensures { λ r. ⌜ r ≡ shownSay (historyOf start n (now (edges .entry)) m (now (refs .entry)) k) t ⌝ }
+    requires { ⌜ LentRows start n (now edges) m (now refs) k ⌝ }
+    requires { ⌜ Fresh n (now up) ⌝ }
+    ensures { λ r. ⌜ Shows (historyOf start n (now (edges .entry)) m (now (refs .entry)) k) t (now (up .exit)) r ⌝ }
 {
-    let mut up = [NO_NODE; MOST_NODES];
-    take_rows(edges, m, t, &mut up);
-    let overlap = first_overlap(&up, n);
+    take_rows(edges, m, t, up);
+    let overlap = first_overlap(up, n);
     if overlap < n {
-        return Answer::Faulty(t, Fault::Overlap(overlap as u32));
+        return faulty(t, Kind::Overlap, overlap);
     }
-    after_gap(n, refs, k, t, &up)
+    after_gap(n, refs, k, t, up)
 }

@@ -1,15 +1,16 @@
-// A leaf for each line of the table of faults: its smallest place, or the count of places where there is none.
+// The leaves of the judge: the smallest place of a line of the table of faults, or the count of places where there is
+// none. One leaf serves LATE and DANGLING, and CYCLE has its own file.
 ghost use mathlib.Core.Path.{_≡_};
-ghost use Prim.Native.Nat.{ℕ, _+_, _<_, _≤_};
+ghost use Prim.Native.Nat.{_+_, _<_, _≤_};
 ghost use lib.ListN.{length};
 ghost use Rattle.ground.specs.Least.{Least, least};
-ghost use Rattle.tables.specs.Rows.{refAt, HasRefs};
-ghost use Rattle.faults.specs.Leaves.{isMany, isAbsent, isGap, Parts, isAstray};
+ghost use Rattle.tables.specs.Rows.{refAt};
+ghost use Rattle.faults.specs.Leaves.{isMany, isAbsent, isGap, Parts, Parting, isStray, Referring};
 use super::slots::MANY;
 use tables::rows::NO_NODE;
-use tables::rows::ref_attribute;
+use tables::rows::Side;
 use tables::rows::ref_in_force;
-use tables::rows::ref_target;
+use tables::rows::ref_side;
 
 // OVERLAP: the smallest of n nodes whose slot is MANY.
 pub fn first_overlap(up: &[u32], n: usize) -> usize
@@ -57,8 +58,7 @@ pub fn first_gap(up: &[u32], first: &[u32], last: &[u32], n: usize, t: u32) -> u
 
 // The smaller of two nodes that are absent and have a child: best, and the slot of c where it is one.
 fn part_of(up: &[u32], n: usize, c: usize, best: usize) -> usize
-    requires { ⌜ (n ≤ length (now up)) × (c < n) × (best ≤ n) ⌝ }
-    requires { ⌜ Least (Parts (now up) c) n best ⌝ }
+    requires { ⌜ Parting (now up) n c best ⌝ }
     ensures { λ r. ⌜ Least (Parts (now (up .entry)) (c + 1)) n r ⌝ }
 {
     let p = up[c] as usize;
@@ -85,31 +85,14 @@ pub fn first_outside(up: &[u32], n: usize) -> usize
     best
 }
 
-// LATE: the smallest of k reference rows in force whose attribute is absent.
-pub fn first_late(refs: &[u32], k: usize, t: u32, up: &[u32]) -> usize
-    requires { ⌜ HasRefs (now refs) k × ((j : ℕ) → j < k → refAt (now refs) j .attribute < length (now up)) ⌝ }
-    ensures { λ r. ⌜ r ≡ least (λ j. isAstray (now (up .entry)) t (refAt (now (refs .entry)) j)
-        (refAt (now (refs .entry)) j .attribute)) k ⌝ }
+// LATE and DANGLING: the smallest of k reference rows in force whose node at one side is absent.
+pub fn first_stray(refs: &[u32], k: usize, side: Side, t: u32, up: &[u32]) -> usize
+    requires { ⌜ Referring (now refs) k (length (now up)) ⌝ }
+    ensures { λ r. ⌜ r ≡ least (λ j. isStray (now (up .entry)) t side (refAt (now (refs .entry)) j)) k ⌝ }
 {
     let mut j = 0;
     while j < k {
-        if ref_in_force(refs, j, t) & is_absent(up, ref_attribute(refs, j) as usize) {
-            return j;
-        }
-        j += 1;
-    }
-    k
-}
-
-// DANGLING: the smallest of k reference rows in force whose target is absent.
-pub fn first_dangling(refs: &[u32], k: usize, t: u32, up: &[u32]) -> usize
-    requires { ⌜ HasRefs (now refs) k × ((j : ℕ) → j < k → refAt (now refs) j .target < length (now up)) ⌝ }
-    ensures { λ r. ⌜ r ≡ least (λ j. isAstray (now (up .entry)) t (refAt (now (refs .entry)) j)
-        (refAt (now (refs .entry)) j .target)) k ⌝ }
-{
-    let mut j = 0;
-    while j < k {
-        if ref_in_force(refs, j, t) & is_absent(up, ref_target(refs, j) as usize) {
+        if ref_in_force(refs, j, t) & is_absent(up, ref_side(refs, j, side) as usize) {
             return j;
         }
         j += 1;

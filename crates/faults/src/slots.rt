@@ -1,10 +1,7 @@
 // One pass over the rows at an instant: each node's slot holds the parent of the row into it that is in force.
-ghost use Prim.Native.Nat.{_+_, _≤_};
-ghost use lib.ListN.{length};
-ghost use Rattle.tables.specs.Rows.{edgeAt, HasEdges};
-ghost use Rattle.tables.specs.Rules.{mostNodes};
-ghost use Rattle.history.specs.Faults.{Below};
-ghost use Rattle.faults.specs.Slots.{Slots};
+ghost use Prim.Native.Nat.{_+_};
+ghost use Rattle.tables.specs.Rows.{edgeAt};
+ghost use Rattle.faults.specs.Slots.{Slots, Taking, Blank};
 use tables::rows::NO_NODE;
 use tables::rows::edge_child;
 use tables::rows::edge_in_force;
@@ -15,9 +12,7 @@ pub const MANY: u32 = 4294967294;
 
 // Row i: its parent goes into its child's slot, or MANY where the slot is taken.
 fn take_row(edges: &[u32], i: usize, t: u32, up: &mut [u32])
-    requires { ⌜ HasEdges (now edges) (i + 1) × Below (i + 1) (edgeAt (now edges)) (length (now up)) ×
-        (length (now up) ≤ mostNodes) ⌝ }
-    requires { ⌜ Slots (edgeAt (now edges)) t i (now up) ⌝ }
+    requires { ⌜ Taking (now edges) t i (now up) ⌝ }
     ensures { λ _. ⌜ Slots (edgeAt (now (edges .entry))) t (i + 1) (now (up .exit)) ⌝ }
 {
     if edge_in_force(edges, i, t) {
@@ -32,9 +27,7 @@ fn take_row(edges: &[u32], i: usize, t: u32, up: &mut [u32])
 
 // All m rows, from slots that are all NO_NODE.
 pub fn take_rows(edges: &[u32], m: usize, t: u32, up: &mut [u32])
-    requires { ⌜ HasEdges (now edges) m × Below m (edgeAt (now edges)) (length (now up)) ×
-        (length (now up) ≤ mostNodes) ⌝ }
-    requires { ⌜ Slots (edgeAt (now edges)) t 0 (now up) ⌝ }
+    requires { ⌜ Blank (now edges) t m (now up) ⌝ }
     ensures { λ _. ⌜ Slots (edgeAt (now (edges .entry))) t m (now (up .exit)) ⌝ }
 {
     let mut i = 0;

@@ -1,10 +1,7 @@
 // One pass over the rows for all instants: each node's first start and last end.
-ghost use mathlib.Core.Path.{_≡_};
 ghost use Prim.Native.Nat.{_+_};
-ghost use lib.ListN.{length};
-ghost use Rattle.tables.specs.Rows.{edgeAt, HasEdges};
-ghost use Rattle.history.specs.Faults.{Below};
-ghost use Rattle.faults.specs.Stays.{Stays};
+ghost use Rattle.tables.specs.Rows.{edgeAt};
+ghost use Rattle.faults.specs.Stays.{Stays, Noting, Bare};
 use ground::larger;
 use ground::smaller;
 use tables::rows::edge_child;
@@ -12,9 +9,7 @@ use tables::rows::edge_label;
 
 // Row i goes into its child's bounds.
 fn note_row(edges: &[u32], i: usize, first: &mut [u32], last: &mut [u32])
-    requires { ⌜ HasEdges (now edges) (i + 1) × Below (i + 1) (edgeAt (now edges)) (length (now first)) ×
-        (length (now first) ≡ length (now last)) ⌝ }
-    requires { ⌜ Stays (edgeAt (now edges)) i (now first) (now last) ⌝ }
+    requires { ⌜ Noting (now edges) i (now first) (now last) ⌝ }
     ensures { λ _. ⌜ Stays (edgeAt (now (edges .entry))) (i + 1) (now (first .exit)) (now (last .exit)) ⌝ }
 {
     let c = edge_child(edges, i) as usize;
@@ -26,9 +21,7 @@ fn note_row(edges: &[u32], i: usize, first: &mut [u32], last: &mut [u32])
 
 // All m rows, from bounds that no row has changed.
 pub fn note_rows(edges: &[u32], m: usize, first: &mut [u32], last: &mut [u32])
-    requires { ⌜ HasEdges (now edges) m × Below m (edgeAt (now edges)) (length (now first)) ×
-        (length (now first) ≡ length (now last)) ⌝ }
-    requires { ⌜ Stays (edgeAt (now edges)) 0 (now first) (now last) ⌝ }
+    requires { ⌜ Bare (now edges) m (now first) (now last) ⌝ }
     ensures { λ _. ⌜ Stays (edgeAt (now (edges .entry))) m (now (first .exit)) (now (last .exit)) ⌝ }
 {
     let mut i = 0;

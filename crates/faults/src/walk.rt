@@ -1,19 +1,17 @@
 // CYCLE: walking up from node to parent by the slots. Asked only where no node has two rows into it, so that there is
 // one way up.
-ghost use mathlib.Core.Path.{_≡_};
-ghost use mathlib.Core.Bool.{true, false};
-ghost use Prim.Native.Nat.{_+_, _<_, _≤_};
+ghost use Prim.Native.Nat.{_<_, _≤_};
 ghost use lib.ListN.{length};
 ghost use Rattle.ground.specs.Least.{Least};
-ghost use Rattle.tables.specs.Rules.{mostNodes};
-ghost use Rattle.faults.specs.Walks.{Back};
+ghost use Rattle.tables.specs.Sizes.{mostNodes};
+ghost use Rattle.faults.specs.Walks.{Back, Means};
 ghost use Rattle.faults.specs.Marks.{Done, Walked, NoBack, SomeBack};
-use tables::judge::MOST_NODES;
+use tables::sizes::MOST_NODES;
 
 // Whether the walk up from c comes back to c.
 fn comes_back(up: &[u32], n: usize, c: usize) -> bool
     requires { ⌜ (n ≤ length (now up)) × (n ≤ mostNodes) × (c < n) ⌝ }
-    ensures { λ r. ⌜ (r ≡ true → Back (now (up .entry)) n c) × (r ≡ false → Back (now (up .entry)) n c → ⊥) ⌝ }
+    ensures { λ r. ⌜ Means r (Back (now (up .entry)) n c) (Back (now (up .entry)) n c → ⊥) ⌝ }
 {
     let mut x = up[c] as usize;
     let mut k = 0;
@@ -50,8 +48,8 @@ fn find_back(up: &[u32], n: usize) -> usize
 fn walk(up: &[u32], n: usize, start: usize, mark: &mut [u32]) -> bool
     requires { ⌜ (n ≤ length (now up)) × (n ≤ length (now mark)) × (n ≤ mostNodes) × (start < n) ⌝ }
     requires { ⌜ Done (now up) n start (now mark) ⌝ }
-    ensures { λ r. ⌜ (r ≡ true → Walked (now (up .entry)) n start (now (mark .entry)) (now (mark .exit))) ×
-        (r ≡ false → SomeBack (now (up .entry)) n) ⌝ }
+    ensures { λ r. ⌜ Means r (Walked (now (up .entry)) n start (now (mark .entry)) (now (mark .exit)))
+        (SomeBack (now (up .entry)) n) ⌝ }
 {
     let stamp = start as u32 + 1;
     let mut x = start;
@@ -72,8 +70,7 @@ fn walk(up: &[u32], n: usize, start: usize, mark: &mut [u32]) -> bool
 // Whether no node comes back to itself. Each node is passed once.
 fn settled(up: &[u32], n: usize) -> bool
     requires { ⌜ (n ≤ length (now up)) × (n ≤ mostNodes) ⌝ }
-    ensures { λ r. ⌜ (r ≡ true → NoBack (now (up .entry)) n)
-        × (r ≡ false → SomeBack (now (up .entry)) n) ⌝ }
+    ensures { λ r. ⌜ Means r (NoBack (now (up .entry)) n) (SomeBack (now (up .entry)) n) ⌝ }
 {
     let mut mark = [0u32; MOST_NODES];
     let mut start = 0;

@@ -1,96 +1,111 @@
-use native.Mathlib.Omega.{arith}
+use mathlib.Core.List.{List}
+use lib.ListN.{drop}
 use denote.Ref.{now}
-use Rattle.history.specs.History.{historyOf}
-use Rattle.faults.proofs.JudgeLaws.{on-outside, on-cycle, on-late, on-dangling, on-nothing}
 use borrow.Author.Needs.{needs}
+use Rattle.answers.specs.declared.Kind.{Kind}
+use Rattle.answers.specs.declared.Answer.{Answer}
+use Rattle.answers.specs.Numbers.{afterGap}
+use Rattle.faults.specs.Judged.{Rest}
+use Rattle.faults.proofs.JudgeLaws.{outside-found, cycle-found, late-found, dangling-found}
+use Rattle.faults.proofs.JudgeLaws.{rest-found, rest-on, rest-none}
 use Rattle.faults.proofs.judge.after_gap.Statement.{statement}
 use Rattle.faults.proofs.judge.after_gap.Tie as tie
+
+-- past each kind: the function's start, and what the answer of the kinds after it is
+abbrev Says : tie.Start → List Kind → Answer → Type 0
+Says a = Rest (a .args .n) (now (a .args .refs)) (a .args .k) (a .args .t) (now (a .args .up))
+
+abbrev start₁ : tie.Else1 → tie.Start
+start₁ c = c .before .before .before .before
+
+past₁ : (c : tie.Else1) {a : Answer} → Says (start₁ c) (drop 1 afterGap) a → Says (start₁ c) afterGap a
+past₁ c = rest-on (outside-found (c .before .first-outside .ensures)) (λ s e m. c .if1 .left)
+
+abbrev start₂ : tie.Else2 → tie.Start
+start₂ c = start₁ (c .before .before)
+
+past₂ : (c : tie.Else2) {a : Answer} → Says (start₂ c) (drop 2 afterGap) a → Says (start₂ c) afterGap a
+past₂ c r =
+    past₁ (c .before .before) (rest-on (cycle-found (c .before .first-back .ensures)) (λ s e m. c .if2 .left) r)
+
+abbrev start₃ : tie.Else3 → tie.Start
+start₃ c = start₂ (c .before .before)
+
+past₃ : (c : tie.Else3) {a : Answer} → Says (start₃ c) (drop 3 afterGap) a → Says (start₃ c) afterGap a
+past₃ c r =
+    past₂ (c .before .before) (rest-on (late-found (c .before .first-stray .ensures)) (λ s e m. c .if3 .left) r)
+
+abbrev start₄ : tie.Else4 → tie.Start
+start₄ c = start₃ (c .before .before)
+
+past₄ : (c : tie.Else4) {a : Answer} → Says (start₄ c) (drop 4 afterGap) a → Says (start₄ c) afterGap a
+past₄ c r =
+    past₃ (c .before .before) (rest-on (dangling-found (c .before .first-stray2 .ensures)) (λ s e m. c .if4 .left) r)
 
 first-outside-requires : tie.Need-first-outside-requires
 first-outside-requires c κs = search needs
 
-cast-t11 : tie.Need-cast-t11
-cast-t11 c = search needs
+faulty-requires : tie.Need-faulty-requires
+faulty-requires c κs = search needs
 
 returns : tie.Need-returns
 returns c =
-    λ start es m lent s sole. let a = c .before .before .before .before in
-    on-outside (historyOf start (a .args .n) es m (now (a .args .refs)) (a .args .k)) (a .args .t) (lent .ruled)
-    (now (a .args .up)) (a .pre .0 .0) s sole (c .before .first-outside .ensures) (c .if1 .taken)
+    rest-found (outside-found (c .before .before .first-outside .ensures)) (λ s e m. c .before .if1 .taken)
+    (c .faulty .ensures)
 
 first-back-requires : tie.Need-first-back-requires
 first-back-requires c κs = search needs
 
-cast-t13 : tie.Need-cast-t13
-cast-t13 c = search needs
+faulty-requires-2 : tie.Need-faulty-requires-2
+faulty-requires-2 c κs = search needs
 
 returns-2 : tie.Need-returns-2
 returns-2 c =
-    λ start es m lent s sole. let a = c .before .before .before .before .before .before in
-    on-cycle (historyOf start (a .args .n) es m (now (a .args .refs)) (a .args .k)) (a .args .t) (lent .ruled)
-    (now (a .args .up)) (a .pre .0 .0) s sole (c .before .before .before .first-outside .ensures)
-    (c .before .before .if1 .left) (c .before .first-back .ensures) (c .if2 .taken)
+    past₁ (c .before .before .before)
+    (rest-found (cycle-found (c .before .before .first-back .ensures)) (λ s e m. c .before .if2 .taken)
+    (c .faulty2 .ensures))
 
-first-late-requires : tie.Need-first-late-requires
-first-late-requires c κs =
-    (search needs, λ j h. omega (arith, c .before .before .before .before .before .before .pre .1 j h))
+first-stray-requires : tie.Need-first-stray-requires
+first-stray-requires c κs = search needs
 
-cast-t15 : tie.Need-cast-t15
-cast-t15 c = search needs
+faulty-requires-3 : tie.Need-faulty-requires-3
+faulty-requires-3 c κs = search needs
 
 returns-3 : tie.Need-returns-3
 returns-3 c =
-    λ start es m lent s sole. let a = c .before .before .before .before .before .before .before .before in
-    on-late (historyOf start (a .args .n) es m (now (a .args .refs)) (a .args .k)) (a .args .t) (lent .ruled)
-    (now (a .args .up)) (a .pre .0 .0) s sole (c .before .before .before .before .before .first-outside .ensures)
-    (c .before .before .before .before .if1 .left) (c .before .before .before .first-back .ensures)
-    (c .before .before .if2 .left) (c .before .first-late .ensures) (c .if3 .taken)
+    past₂ (c .before .before .before)
+    (rest-found (late-found (c .before .before .first-stray .ensures)) (λ s e m. c .before .if3 .taken)
+    (c .faulty3 .ensures))
 
-first-dangling-requires : tie.Need-first-dangling-requires
-first-dangling-requires c κs =
-    (search needs, λ j h. omega (arith, c .before .before .before .before .before .before .before .before .pre .1 j h))
+first-stray-requires-2 : tie.Need-first-stray-requires-2
+first-stray-requires-2 c κs = search needs
 
-cast-t17 : tie.Need-cast-t17
-cast-t17 c = search needs
+faulty-requires-4 : tie.Need-faulty-requires-4
+faulty-requires-4 c κs = search needs
 
 returns-4 : tie.Need-returns-4
 returns-4 c =
-    λ start es m lent s sole. let a =
-    c .before .before .before .before .before .before .before .before .before .before in
-    on-dangling (historyOf start (a .args .n) es m (now (a .args .refs)) (a .args .k)) (a .args .t) (lent .ruled)
-    (now (a .args .up)) (a .pre .0 .0) s sole
-    (c .before .before .before .before .before .before .before .first-outside .ensures)
-    (c .before .before .before .before .before .before .if1 .left)
-    (c .before .before .before .before .before .first-back .ensures) (c .before .before .before .before .if2 .left)
-    (c .before .before .before .first-late .ensures) (c .before .before .if3 .left) (c .before .first-dangling .ensures)
-    (c .if4 .taken)
+    past₃ (c .before .before .before)
+    (rest-found (dangling-found (c .before .before .first-stray2 .ensures)) (λ s e m. c .before .if4 .taken)
+    (c .faulty4 .ensures))
 
 returns-5 : tie.Need-returns-5
-returns-5 c =
-    λ start es m lent s sole. let a =
-    c .before .before .before .before .before .before .before .before .before .before in
-    on-nothing (historyOf start (a .args .n) es m (now (a .args .refs)) (a .args .k)) (a .args .t) (lent .ruled)
-    (now (a .args .up)) (a .pre .0 .0) s sole
-    (c .before .before .before .before .before .before .before .first-outside .ensures)
-    (c .before .before .before .before .before .before .if1 .left)
-    (c .before .before .before .before .before .first-back .ensures) (c .before .before .before .before .if2 .left)
-    (c .before .before .before .first-late .ensures) (c .before .before .if3 .left) (c .before .first-dangling .ensures)
-    (c .if4 .left)
+returns-5 c = past₄ c rest-none
 
 pub after-gap-spec : {M : Type 1} → statement M
 after-gap-spec =
     tie.close
     (tie.spec
     first-outside-requires
-    cast-t11
+    faulty-requires
     returns
     first-back-requires
-    cast-t13
+    faulty-requires-2
     returns-2
-    first-late-requires
-    cast-t15
+    first-stray-requires
+    faulty-requires-3
     returns-3
-    first-dangling-requires
-    cast-t17
+    first-stray-requires-2
+    faulty-requires-4
     returns-4
     returns-5)

@@ -1,124 +1,113 @@
-use native.Mathlib.Omega.{arith}
+use mathlib.Core.Path.{_≡_, _∙_}
 use mathlib.Core.List.{List}
 use Prim.Native.Nat.{ℕ}
-use Prim.Native.Nat.{_≤_}
+use lib.ListN.{drop}
 use denote.Ref.{now}
-use lib.ListN.{length}
-use Rattle.tables.specs.Rules.{mostNodes}
-use Rattle.history.specs.History.{History, historyOf}
-use Rattle.faults.proofs.SlotLaws.{slots-none, below-wide}
-use Rattle.faults.proofs.JudgeLaws.{no-overlap, on-overlap, on-gap, on-rest}
 use borrow.Author.Needs.{needs}
+use Rattle.ground.specs.Least.{least}
+use Rattle.answers.specs.declared.Answer.{Answer}
+use Rattle.answers.specs.declared.Kind.the-variants.{Overlap, Gap}
+use Rattle.answers.specs.Numbers.{kinds}
+use Rattle.history.specs.History.{History, historyOf}
+use Rattle.history.specs.Faults.{places}
+use Rattle.history.specs.Computed.{holds, say}
+use Rattle.history.proofs.SayLaws.{say-found, say-on}
+use Rattle.faults.specs.Judged.{Seen, Clear}
+use Rattle.faults.proofs.SlotLaws.{fresh, lent-blank}
+use Rattle.faults.proofs.JudgeLaws.{lent-referring, overlap-line, clear, gap-line}
 use Rattle.faults.proofs.judge.judge.Statement.{statement}
 use Rattle.faults.proofs.judge.judge.Tie as tie
 
--- the history, and the slots that the pass over the rows left
 abbrev H : tie.Start → History
 H a = historyOf (a .args .start) (a .args .n) (now (a .args .edges)) (a .args .m) (now (a .args .refs)) (a .args .k)
+
+-- after the pass over the rows: the function's start, and the slots that it left
+abbrev entry : tie.After-up → tie.Start
+entry c = c .before .before .before .before .before
+
+abbrev start : tie.After-take-rows → tie.Start
+start c = entry (c .before)
 
 abbrev slots : tie.After-take-rows → List ℕ
 slots c = c .take-rows .last .1 .1 .1 .0
 
-long : (c : tie.After-take-rows) → c .before .before .before .before .before .before .args .n ≤ length (slots c)
-long c =
-    omega (
-      arith,
-      c .take-rows .kept .1 .1 .1 .0,
-      c .before .before .before .before .before .before .pre .0 .ruled .few-nodes,
-    )
+seen : (c : tie.After-take-rows) → Seen (H (start c)) (start c .args .t) (slots c)
+seen c = record { ruled = search needs; long = search needs; slots = search needs }
+
+-- OVERLAP, and past it
+abbrev rows : tie.After-first-overlap → tie.After-take-rows
+rows c = c .before .before .before
+
+overlap-place : (c : tie.After-first-overlap) → let s = start (rows c) in
+    c .first-overlap .result ≡ least (holds (H s) (s .args .t) Overlap) (places (H s) Overlap)
+overlap-place c = overlap-line (seen (rows c)) (c .first-overlap .ensures)
+
+past₁ : (c : tie.Else1) {a : Answer} → let s = start (rows (c .before)) in
+    a ≡ say (H s) (s .args .t) (drop 1 kinds) → a ≡ say (H s) (s .args .t) kinds
+past₁ c = say-on _ _ Overlap (overlap-place (c .before)) _ (c .if1 .left)
+
+cleared : (c : tie.Else1) → let r = rows (c .before) in Clear (H (start r)) (start r .args .t) (slots r)
+cleared c = clear (seen (rows (c .before))) (c .before .first-overlap .ensures) (c .if1 .left)
+
+-- GAP, and past it
+abbrev past : tie.After-first-gap → tie.Else1
+past c = c .before .before
+
+gap-place : (c : tie.After-first-gap) → let s = start (rows (past c .before)) in
+    c .first-gap .result ≡ least (holds (H s) (s .args .t) Gap) (places (H s) Gap)
+gap-place c =
+    let r = rows (past c .before) in gap-line (seen r) (search needs) (start r .pre .1) (c .first-gap .ensures)
+
+past₂ : (c : tie.Else2) {a : Answer} → let s = start (rows (past (c .before) .before)) in
+    a ≡ say (H s) (s .args .t) (drop 2 kinds) → a ≡ say (H s) (s .args .t) kinds
+past₂ c e = past₁ (past (c .before)) (say-on _ _ Gap (gap-place (c .before)) _ (c .if2 .left) e)
 
 slice-aggregate-take-rows : tie.Need-slice-aggregate-take-rows
 slice-aggregate-take-rows c = search needs
 
 take-rows-requires : tie.Need-take-rows-requires
-take-rows-requires c κs =
-    let a = c .before .before .before .before .before in (
-      (a .pre .0 .edge-rows, below-wide (H a) (a .pre .0 .ruled) mostNodes (a .pre .0 .ruled .few-nodes), omega arith),
-      slots-none _ _ mostNodes,
-    )
+take-rows-requires c κs = lent-blank (entry c .pre .0) (fresh (search needs)) _
 
 slice-aggregate-first-overlap : tie.Need-slice-aggregate-first-overlap
 slice-aggregate-first-overlap c = search needs
 
 first-overlap-requires : tie.Need-first-overlap-requires
-first-overlap-requires c κs =
-    omega (
-      arith,
-      c .before .before .take-rows .kept .1 .1 .1 .0,
-      c .before .before .before .before .before .before .before .before .pre .0 .ruled .few-nodes,
-    )
+first-overlap-requires c κs = search needs
 
-cast-t19 : tie.Need-cast-t19
-cast-t19 c = search needs
+faulty-requires : tie.Need-faulty-requires
+faulty-requires c κs = search needs
 
 returns : tie.Need-returns
 returns c =
-    let a = c .before .before .before .before .before .before .before .before .before .before in
-    on-overlap (H a) (a .args .t) (a .pre .0 .ruled) (slots (c .before .before .before .before))
-    (long (c .before .before .before .before)) (c .before .before .before .before .take-rows .ensures)
-    (c .before .first-overlap .ensures) (c .if1 .taken)
+    c .faulty .ensures ∙ say-found _ _ Overlap (overlap-place (c .before .before)) _ (c .before .if1 .taken)
 
 slice-aggregate-first-gap : tie.Need-slice-aggregate-first-gap
 slice-aggregate-first-gap c = search needs
 
 first-gap-requires : tie.Need-first-gap-requires
-first-gap-requires c κs = (
-  omega (
-    arith,
-    c .before .before .before .before .before .take-rows .kept .1 .1 .1 .0,
-    c .before .before .before .before .before .before .before .before .before .before .before .pre .0 .ruled .few-nodes,
-  ),
-  c .before .before .before .before .before .before .before .before .before .before .before .pre .1 .0,
-  c .before .before .before .before .before .before .before .before .before .before .before .pre .1 .1,
-)
+first-gap-requires c κs = search needs
 
-cast-t23 : tie.Need-cast-t23
-cast-t23 c = search needs
+faulty-requires-2 : tie.Need-faulty-requires-2
+faulty-requires-2 c κs = search needs
 
 returns-2 : tie.Need-returns-2
 returns-2 c =
-    let a = c .before .before .before .before .before .before .before .before .before .before .before .before .before in
-    on-gap (H a) (a .args .t) (a .pre .0 .ruled) (slots (c .before .before .before .before .before .before .before))
-    (long (c .before .before .before .before .before .before .before))
-    (c .before .before .before .before .before .before .before .take-rows .ensures)
-    (c .before .before .before .before .first-overlap .ensures) (omega arith) (c .before .before .before .if1 .left)
-    (now (a .args .first)) (now (a .args .last)) (a .pre .1 .0) (a .pre .1 .2) (c .before .first-gap .ensures)
-    (c .if2 .taken)
+    let found = c .before .before in
+    past₁ (past found) (c .faulty2 .ensures ∙ say-found _ _ Gap (gap-place found) _ (c .before .if2 .taken))
 
 slice-aggregate-after-gap : tie.Need-slice-aggregate-after-gap
 slice-aggregate-after-gap c = search needs
 
 after-gap-requires : tie.Need-after-gap-requires
 after-gap-requires c κs =
-    let rows = c .before .before .before .before .before .before .before .before in
-    let a = rows .before .before .before .before .before .before in (
-      (
-        long rows,
-        a .pre .0 .ruled .few-nodes,
-        a .pre .0 .ruled .few-refs,
-        a .pre .0 .ref-rows,
-      ),
-      λ j h.
-          (a .pre .0 .ruled .ref-ruled j h .attribute, a .pre .0 .ruled .ref-ruled j h .target),
-    )
+    let r = rows (past (c .before .before) .before) in
+    let a = start r in
+    (seen r .long, a .pre .0 .ruled .few-nodes, a .pre .0 .ruled .few-refs, lent-referring (a .pre .0) _ (seen r .long))
 
 returns-3 : tie.Need-returns-3
 returns-3 c =
-    let rows = c .before .before .before .before .before .before .before .before .before in
-    let a = rows .before .before .before .before .before .before in
-    let o = c .before .before .before .before .before .before .first-overlap .ensures in
-    on-rest (H a) (a .args .t) (a .pre .0 .ruled)
-    (slots rows) (long rows) (rows .take-rows .ensures) o (omega arith)
-    (c .before .before .before .before .before .if1 .left)
-    (now (a .args .first)) (now (a .args .last)) (a .pre .1 .0) (a .pre .1 .2)
-    (c .before .before .before .first-gap .ensures) (c .before .before .if2 .left)
-    (c .after-gap .ensures (a .args .start) (now (a .args .edges)) (a .args .m) (a .pre .0)
-    (c .before .before .before .before .before .before .before .before .before .take-rows .ensures)
-    (no-overlap (H a) (a .args .t) (a .pre .0 .ruled)
-    (slots (c .before .before .before .before .before .before .before .before .before))
-    (long (c .before .before .before .before .before .before .before .before .before))
-    (c .before .before .before .before .before .before .before .before .before .take-rows .ensures) o
-    (c .before .before .before .before .before .if1 .left)))
+    let later = c .before .before in
+    past₂ later (c .after-gap .ensures .answer _ _ _ (cleared (past (later .before))))
 
 pub judge-spec : {M : Type 1} → statement M
 judge-spec =
@@ -128,11 +117,11 @@ judge-spec =
     take-rows-requires
     slice-aggregate-first-overlap
     first-overlap-requires
-    cast-t19
+    faulty-requires
     returns
     slice-aggregate-first-gap
     first-gap-requires
-    cast-t23
+    faulty-requires-2
     returns-2
     slice-aggregate-after-gap
     after-gap-requires

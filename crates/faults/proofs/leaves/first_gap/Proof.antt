@@ -1,6 +1,5 @@
 use borrow.Author.Needs.{needs}
 use Prim.Native.Nat.{_≤_, _-_}
-use mathlib.Core.Path.{_∙_, sym}
 use Rattle.ground.specs.Least.{Before, Passes}
 use Rattle.ground.proofs.LeastLaws.{search-none, search-more, search-found, search-missed}
 use Rattle.faults.specs.Leaves.{isGap}
@@ -20,9 +19,7 @@ is-gap-requires : tie.Need-is-gap-requires Inv-loop μ-loop
 is-gap-requires c κs = search needs
 
 returns : tie.Need-returns Inv-loop μ-loop
-returns c =
-    search-found _ (c .before .before .loop-test .taken) (c .before .before .before .loop .inv .1)
-    (sym (c .before .is-gap .ensures) ∙ c .if1 .taken)
+returns c = search-found _ (search needs) (search needs) (cc)
 
 add-c : tie.Need-add-c Inv-loop μ-loop
 add-c c = search needs
@@ -31,14 +28,10 @@ loop-less : tie.Need-loop-less Inv-loop μ-loop
 loop-less c = search needs
 
 loop-again : tie.Need-loop-again Inv-loop μ-loop
-loop-again c = (
-  search needs,
-  search-more _ _ (c .before .before .before .loop .inv .1)
-      (sym (c .before .is-gap .ensures) ∙ c .if1 .left),
-)
+loop-again c = (search needs, search-more _ _ (search needs) (cc))
 
 returns-2 : tie.Need-returns-2 Inv-loop μ-loop
-returns-2 c = search-missed _ (c .loop-test .left) (c .before .loop .inv .1)
+returns-2 c = search-missed _ (c .loop-test .left) (search needs)
 
 pub first-gap-spec : {M : Type 1} → statement M
 first-gap-spec =

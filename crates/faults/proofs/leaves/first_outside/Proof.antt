@@ -1,13 +1,10 @@
 use denote.Ref.{now}
-use Prim.Native.Nat.{ℕ}
-use mathlib.Core.Path.{subst}
 use borrow.Author.Needs.{needs}
 use native.Mathlib.Omega.{arith}
 use Prim.Native.Nat.{_≤_, _-_}
-use mathlib.Core.Path.{_≡_}
 use Rattle.ground.specs.Least.{Least}
 use Rattle.faults.specs.Leaves.{Parts}
-use Rattle.faults.proofs.PartLaws.{parts-none}
+use Rattle.faults.proofs.PartLaws.{parts-none, parts-all}
 use Rattle.faults.proofs.leaves.first_outside.Statement.{statement}
 use Rattle.faults.proofs.leaves.first_outside.Tie as tie
 
@@ -30,13 +27,10 @@ loop-less : tie.Need-loop-less Inv-loop μ-loop
 loop-less c = search needs
 
 loop-again : tie.Need-loop-again Inv-loop μ-loop
-loop-again c = (search needs, c .part-of .ensures)
+loop-again c = search needs
 
 returns : tie.Need-returns Inv-loop μ-loop
-returns c =
-    let a = c .before .before .before .args in
-    let e : c .before .loop .c ≡ a .n = omega arith in
-    subst (λ (x : ℕ). Least (Parts (now (a .up)) x) (a .n) (c .before .loop .best)) e (c .before .loop .inv .1)
+returns c = parts-all (now (c .before .before .before .args .up)) (c .before .loop .inv .1) (omega arith)
 
 pub first-outside-spec : {M : Type 1} → statement M
 first-outside-spec =

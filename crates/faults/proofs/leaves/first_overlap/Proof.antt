@@ -23,9 +23,7 @@ shared-slice-read-if1 : tie.Need-shared-slice-read-if1 Inv-loop μ-loop
 shared-slice-read-if1 c = search needs
 
 returns : tie.Need-returns Inv-loop μ-loop
-returns c =
-    search-found _ (c .before .before .loop-test .taken) (c .before .before .before .loop .inv .1)
-    (eq-eqb _ _ (c .if1 .taken))
+returns c = search-found _ (search needs) (search needs) (eq-eqb _ _ (c .if1 .taken))
 
 add-c : tie.Need-add-c Inv-loop μ-loop
 add-c c = search needs
@@ -34,10 +32,10 @@ loop-less : tie.Need-loop-less Inv-loop μ-loop
 loop-less c = search needs
 
 loop-again : tie.Need-loop-again Inv-loop μ-loop
-loop-again c = (search needs, search-more _ _ (c .before .before .before .loop .inv .1) (ne-eqb _ _ (c .if1 .left)))
+loop-again c = (search needs, search-more _ _ (search needs) (ne-eqb _ _ (c .if1 .left)))
 
 returns-2 : tie.Need-returns-2 Inv-loop μ-loop
-returns-2 c = search-missed _ (c .loop-test .left) (c .before .loop .inv .1)
+returns-2 c = search-missed _ (c .loop-test .left) (search needs)
 
 pub first-overlap-spec : {M : Type 1} → statement M
 first-overlap-spec =

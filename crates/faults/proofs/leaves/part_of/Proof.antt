@@ -1,12 +1,12 @@
 use native.Mathlib.Omega.{arith}
-use mathlib.Core.Bool.{false≢true}
-use mathlib.Core.Path.{refl, sym, ap, _∙_}
-use denote.Ref.{now}
-use Rattle.faults.specs.Leaves.{isAbsent}
-use Rattle.faults.proofs.PartLaws.{part-stays, part-found}
+use mathlib.Core.Path.{refl}
+use Rattle.faults.proofs.PartLaws.{part-stays, part-present, part-found}
 use borrow.Author.Needs.{needs}
 use Rattle.faults.proofs.leaves.part_of.Statement.{statement}
 use Rattle.faults.proofs.leaves.part_of.Tie as tie
+
+abbrev start : tie.After-shared-slice-known2 → tie.Start
+start c = c .before .before
 
 mul-p : tie.Need-mul-p
 mul-p c = search needs
@@ -18,26 +18,16 @@ cast-p : tie.Need-cast-p
 cast-p c = omega (arith, c .shared-slice-known2 .given (c .before .before .args .c))
 
 returns : tie.Need-returns
-returns c =
-    let a = c .before .before .before in
-    part-stays (now (a .args .up)) (a .args .n) (a .args .c) (a .args .best) (a .pre .1)
-    (λ x h b e. omega (arith, c .if1 .taken))
+returns c = part-stays (start (c .before) .pre) (λ x h b e. omega arith)
 
 is-absent-requires : tie.Need-is-absent-requires
 is-absent-requires c κs = search needs
 
 returns-2 : tie.Need-returns-2
-returns-2 c =
-    let a = c .before .before .before .before .before in
-    part-found (now (a .args .up)) (a .args .n) (a .args .c) (a .args .best) (a .pre .1) refl
-    (omega (arith, c .before .before .if1 .left)) (sym (c .before .is-absent .ensures) ∙ c .if2 .taken)
+returns-2 c = part-found (start (c .before .before .before) .pre) refl (omega arith) (cc)
 
 returns-3 : tie.Need-returns-3
-returns-3 c =
-    let a = c .before .before .before .before .before in
-    part-stays (now (a .args .up)) (a .args .n) (a .args .c) (a .args .best) (a .pre .1)
-    (λ x h b e. false≢true (sym (c .if2 .left) ∙ c .before .is-absent .ensures ∙ ap (isAbsent
-    (now (a .args .up))) e ∙ b))
+returns-3 c = part-present (start (c .before .before .before) .pre) (cc)
 
 pub part-of-spec : {M : Type 1} → statement M
 part-of-spec =

@@ -1,10 +1,14 @@
-use native.Mathlib.Omega.{arith}
-use mathlib.Core.Path.{_∙_, sym}
-use denote.Ref.{now}
 use Rattle.faults.proofs.SlotLaws.{take-none, take-first, take-more}
 use borrow.Author.Needs.{needs}
 use Rattle.faults.proofs.slots.take_row.Statement.{statement}
 use Rattle.faults.proofs.slots.take_row.Tie as tie
+
+-- where the row is in force, and where its child is known
+abbrev start : tie.Then1 → tie.Start
+start c = c .before .before .before .before
+
+abbrev child : tie.After-slice-known2 → tie.After-edge-child
+child c = c .before
 
 edge-in-force-requires : tie.Need-edge-in-force-requires
 edge-in-force-requires c κs = search needs
@@ -19,12 +23,7 @@ mul-if2 : tie.Need-mul-if2
 mul-if2 c = search needs
 
 slice-read-if2 : tie.Need-slice-read-if2
-slice-read-if2 c =
-    omega (
-      arith,
-      c .before .before .before .before .before .before .pre .0 .1
-          (c .before .before .before .before .before .before .args .i) (omega arith),
-    )
+slice-read-if2 c = search needs
 
 edge-parent-requires : tie.Need-edge-parent-requires
 edge-parent-requires c κs = search needs
@@ -33,49 +32,32 @@ mul-up : tie.Need-mul-up
 mul-up c = search needs
 
 slice-write-up : tie.Need-slice-write-up
-slice-write-up c =
-    omega (
-      arith,
-      c .before .before .before .before .before .before .before .before .pre .0 .1
-          (c .before .before .before .before .before .before .before .before .args .i) (omega arith),
-    )
+slice-write-up c = search needs
 
 mul-up-2 : tie.Need-mul-up-2
 mul-up-2 c = search needs
 
 slice-write-up-2 : tie.Need-slice-write-up-2
-slice-write-up-2 c =
-    omega (
-      arith,
-      c .before .before .before .before .before .before .before .pre .0 .1
-          (c .before .before .before .before .before .before .before .args .i) (omega arith),
-    )
+slice-write-up-2 c = search needs
 
 same-length : tie.Need-same-length
 same-length c = search needs
 
 returns : tie.Need-returns
 returns c =
-    let a = c .before .before .before .before .before .before .before .before in
-    take-first _ _ _ (now (a .args .up)) (a .pre .1) (a .pre .0 .1) (a .pre .0 .2)
-    (sym (c .before .before .before .before .before .edge-in-force .ensures)
-    ∙ c .before .before .before .before .if1 .taken)
-    (c .before .before .before .edge-child .ensures) (c .edge-parent .ensures) (c .before .if2 .taken)
+    let row = child (c .before .before) in
+    take-first _ (start (row .before) .pre) (cc) (row .edge-child .ensures) (c .edge-parent .ensures)
+    (c .before .if2 .taken)
 
 same-length-2 : tie.Need-same-length-2
 same-length-2 c = search needs
 
 returns-2 : tie.Need-returns-2
 returns-2 c =
-    let a = c .before .before .before .before .before .before .before in
-    take-more _ _ _ (now (a .args .up)) (a .pre .1) (a .pre .0 .1) (a .pre .0 .2)
-    (sym (c .before .before .before .before .edge-in-force .ensures) ∙ c .before .before .before .if1 .taken)
-    (c .before .before .edge-child .ensures) (c .if2 .left)
+    let row = child (c .before) in take-more _ (start (row .before) .pre) (cc) (row .edge-child .ensures) (c .if2 .left)
 
 returns-3 : tie.Need-returns-3
-returns-3 c =
-    take-none _ _ _ (now (c .before .before .before .before .args .up)) (c .before .before .before .before .pre .1)
-    (sym (c .before .edge-in-force .ensures) ∙ c .if1 .left)
+returns-3 c = take-none _ (c .before .before .before .before .pre) (cc)
 
 pub take-row-spec : {M : Type 1} → statement M
 take-row-spec =

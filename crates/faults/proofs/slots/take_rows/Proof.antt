@@ -1,5 +1,4 @@
-use denote.Ref.{now}
-use Rattle.faults.proofs.SlotLaws.{below-part}
+use Rattle.faults.proofs.SlotLaws.{taking}
 use borrow.Author.Needs.{needs}
 use native.Mathlib.Omega.{arith}
 use Prim.Native.Nat.{_≤_, _-_}
@@ -16,20 +15,14 @@ Inv-loop edges m t up₀ i₀ up i = (i ≤ m) × (length up ≡ length up₀) �
 abbrev μ-loop : tie.MeasureT-loop
 μ-loop edges m t up₀ i₀ up i = m - i
 
+abbrev start : tie.At-loop Inv-loop μ-loop → tie.Start Inv-loop μ-loop
+start c = c .before .before .before
+
 loop-holds : tie.Need-loop-holds Inv-loop μ-loop
-loop-holds c = (search needs, search needs, c .before .before .pre .1)
+loop-holds c = search needs
 
 take-row-requires : tie.Need-take-row-requires Inv-loop μ-loop
-take-row-requires c κs =
-    let s = c .before .before .before .before .before in (
-      (
-        omega arith,
-        below-part _ (edgeAt (now (s .args .edges))) _ _ _ (s .pre .0 .1) (c .before .loop-test .taken)
-            (c .before .before .loop .inv .1),
-        omega arith,
-      ),
-      c .before .before .loop .inv .2,
-    )
+take-row-requires c κs = taking (start (c .before .before) .pre) (search needs) (search needs) (search needs)
 
 add-i : tie.Need-add-i Inv-loop μ-loop
 add-i c = search needs
@@ -45,8 +38,8 @@ same-length c = search needs
 
 returns : tie.Need-returns Inv-loop μ-loop
 returns c =
-    let e : c .before .loop .i ≡ c .before .before .before .before .args .m = omega arith in
-    rw (← e) (c .before .loop .inv .2)
+    let e : c .before .loop .i ≡ start (c .before) .args .m = omega arith in
+    rw (← e) (search needs)
 
 pub take-rows-spec : {M : Type 1} → statement M
 take-rows-spec =

@@ -1,10 +1,14 @@
-use native.Mathlib.Omega.{arith}
-use denote.Ref.{now}
-use Rattle.tables.specs.Rows.{edgeAt}
 use Rattle.faults.proofs.StayLaws.{stays-note}
 use borrow.Author.Needs.{needs}
 use Rattle.faults.proofs.stays.note_row.Statement.{statement}
 use Rattle.faults.proofs.stays.note_row.Tie as tie
+
+-- where the row has been read, and where its start has been noted
+abbrev start : tie.After-edge-label → tie.Start
+start c = c .before .before .before .before .before
+
+abbrev label : tie.After-smaller → tie.After-edge-label
+label c = c .before .before
 
 edge-child-requires : tie.Need-edge-child-requires
 edge-child-requires c κs = search needs
@@ -19,12 +23,7 @@ mul-smaller : tie.Need-mul-smaller
 mul-smaller c = search needs
 
 slice-read-smaller : tie.Need-slice-read-smaller
-slice-read-smaller c =
-    omega (
-      arith,
-      c .before .before .before .before .before .before .pre .0 .1
-          (c .before .before .before .before .before .before .args .i) (omega arith),
-    )
+slice-read-smaller c = search needs
 
 smaller-requires : tie.Need-smaller-requires
 smaller-requires c κs = search needs
@@ -33,23 +32,13 @@ mul-first : tie.Need-mul-first
 mul-first c = search needs
 
 slice-write-first : tie.Need-slice-write-first
-slice-write-first c =
-    omega (
-      arith,
-      c .before .before .before .before .before .before .before .pre .0 .1
-          (c .before .before .before .before .before .before .before .args .i) (omega arith),
-    )
+slice-write-first c = search needs
 
 mul-larger : tie.Need-mul-larger
 mul-larger c = search needs
 
 slice-read-larger : tie.Need-slice-read-larger
-slice-read-larger c =
-    omega (
-      arith,
-      c .before .before .before .before .before .before .before .before .pre .0 .1
-          (c .before .before .before .before .before .before .before .before .args .i) (omega arith),
-    )
+slice-read-larger c = search needs
 
 instant-requires : tie.Need-instant-requires
 instant-requires c κs = search needs
@@ -61,12 +50,7 @@ mul-last : tie.Need-mul-last
 mul-last c = search needs
 
 slice-write-last : tie.Need-slice-write-last
-slice-write-last c =
-    omega (
-      arith,
-      c .before .before .before .before .before .before .before .before .before .before .pre .0 .1
-          (c .before .before .before .before .before .before .before .before .before .before .args .i) (omega arith),
-    )
+slice-write-last c = search needs
 
 same-length : tie.Need-same-length
 same-length c = search needs
@@ -76,12 +60,10 @@ same-length-2 c = search needs
 
 returns : tie.Need-returns
 returns c =
-    let a = c .before .before .before .before .before .before .before .before .before .before in
-    stays-note (edgeAt (now (a .args .edges))) (a .args .i) (now (a .args .first)) (now (a .args .last)) (a .pre .0 .2)
-    (a .pre .0 .1 (a .args .i) (omega arith) .1)
-    (c .before .before .before .before .before .before .edge-child .ensures)
-    (c .before .before .before .before .before .edge-label .ensures) (c .before .before .before .smaller .ensures)
-    (c .before .instant .ensures) (c .larger .ensures) (a .pre .1)
+    let noted = c .before .before .before in
+    let row = label noted in
+    stays-note _ _ (start row .pre) (row .before .edge-child .ensures) (row .edge-label .ensures)
+    (noted .smaller .ensures) (c .before .instant .ensures) (c .larger .ensures)
 
 pub note-row-spec : {M : Type 1} → statement M
 note-row-spec =

@@ -1,4 +1,3 @@
-use denote.Ref.{now}
 use borrow.Author.Needs.{needs}
 use native.Mathlib.Omega.{arith}
 use Prim.Native.Nat.{_≤_, _-_}
@@ -6,7 +5,7 @@ use mathlib.Core.Path.{_≡_}
 use lib.ListN.{length}
 use Rattle.tables.specs.Rows.{edgeAt}
 use Rattle.faults.specs.Stays.{Stays}
-use Rattle.faults.proofs.SlotLaws.{below-part}
+use Rattle.faults.proofs.StayLaws.{noting}
 use Rattle.faults.proofs.stays.note_rows.Statement.{statement}
 use Rattle.faults.proofs.stays.note_rows.Tie as tie
 
@@ -17,21 +16,15 @@ Inv-loop edges m first₀ last₀ i₀ first last i =
 abbrev μ-loop : tie.MeasureT-loop
 μ-loop edges m first₀ last₀ i₀ first last i = m - i
 
+abbrev start : tie.At-loop Inv-loop μ-loop → tie.Start Inv-loop μ-loop
+start c = c .before .before .before .before
+
 loop-holds : tie.Need-loop-holds Inv-loop μ-loop
-loop-holds c = (search needs, search needs, search needs, c .before .before .before .pre .1)
+loop-holds c = search needs
 
 note-row-requires : tie.Need-note-row-requires Inv-loop μ-loop
 note-row-requires c κs =
-    let s = c .before .before .before .before .before .before .before in
-    let l = c .before .before .before in (
-      (
-        omega arith,
-        below-part _ (edgeAt (now (s .args .edges))) _ _ _ (s .pre .0 .1)
-            (c .before .before .loop-test .taken) (l .loop .inv .1),
-        omega (arith, l .loop .inv .1, l .loop .inv .2),
-      ),
-      l .loop .inv .3,
-    )
+    noting (start (c .before .before .before) .pre) (search needs) (search needs) (search needs) (search needs)
 
 add-i : tie.Need-add-i Inv-loop μ-loop
 add-i c = search needs
@@ -50,8 +43,8 @@ same-length-2 c = search needs
 
 returns : tie.Need-returns Inv-loop μ-loop
 returns c =
-    let e : c .before .loop .i ≡ c .before .before .before .before .before .args .m = omega arith in
-    rw (← e) (c .before .loop .inv .3)
+    let e : c .before .loop .i ≡ start (c .before) .args .m = omega arith in
+    rw (← e) (search needs)
 
 pub note-rows-spec : {M : Type 1} → statement M
 note-rows-spec =

@@ -1,4 +1,4 @@
-use Rattle.faults.proofs.UntilLaws.{until-label}
+use Rattle.history.proofs.UntilLaws.{until-label}
 use borrow.Author.Needs.{needs}
 use Rattle.faults.proofs.until.label_until.Statement.{statement}
 use Rattle.faults.proofs.until.label_until.Tie as tie

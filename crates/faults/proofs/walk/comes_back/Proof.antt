@@ -1,16 +1,13 @@
 use borrow.Author.Needs.{needs}
 use native.Mathlib.Omega.{arith}
-use mathlib.Core.Bool.{true≢false, false≢true}
-use mathlib.Core.Path.{_≡_, sym, _∙_}
-use Prim.Native.Nat.{ℕ, suc, _≤_, _-_, _<_}
-use borrow.Author.Count.{below-more}
-use Rattle.faults.specs.Walks.{climb}
-use Rattle.faults.proofs.WalkLaws.{walk-first, walk-more, back-left, back-none}
+use Prim.Native.Nat.{_-_}
+use Rattle.faults.proofs.WalkLaws.{means-true, means-false, Climbing}
+use Rattle.faults.proofs.WalkLaws.{climbing-starts, climbing-on, climbing-back, climbing-left, climbing-ends}
 use Rattle.faults.proofs.walk.comes_back.Statement.{statement}
 use Rattle.faults.proofs.walk.comes_back.Tie as tie
 
 abbrev Inv-loop : tie.InvT-loop
-Inv-loop up n c x₀ k₀ x k = (k ≤ n) × (x ≡ climb up n (suc k) c) × ((j : ℕ) → j < k → climb up n (suc j) c ≡ c → ⊥)
+Inv-loop up n c x₀ k₀ x k = Climbing up n c x k
 
 abbrev μ-loop : tie.MeasureT-loop
 μ-loop up n c x₀ k₀ x k = n - k
@@ -24,28 +21,19 @@ shared-slice-read-x c = search needs
 cast-x : tie.Need-cast-x Inv-loop μ-loop
 cast-x c = omega (arith, c .shared-slice-known .given (c .before .args .c))
 
+-- a turn that goes on
+abbrev turn : tie.After-shared-slice-known2 Inv-loop μ-loop → tie.At-loop Inv-loop μ-loop
+turn c = c .before .before .before .before
+
 loop-holds : tie.Need-loop-holds Inv-loop μ-loop
-loop-holds c = (
-  search needs,
-  walk-first (c .before .args .up .now) (c .before .args .n) (c .before .args .c) (c .before .pre .2),
-  λ j l. absurd (omega arith),
-)
+loop-holds c = climbing-starts _ _ (search needs)
 
 returns : tie.Need-returns Inv-loop μ-loop
-returns c = (
-  λ e. (c .before .before .loop .k, sym (c .before .before .loop .inv .1) ∙ c .if1 .taken),
-  λ e. absurd
-      (true≢false e),
-)
+returns c = means-true (climbing-back _ _ (c .before .before .loop .inv) (c .if1 .taken))
 
 returns-2 : tie.Need-returns-2 Inv-loop μ-loop
 returns-2 c =
-    let at = c .before .before .before in
-    let s = at .before .before in (
-      λ e. absurd (false≢true e),
-      λ e. back-left (s .args .up .now) (s .args .n) (omega (arith, s .pre .1)) (s .args .c)
-          (s .pre .2) (at .loop .k) (at .loop .inv .2) (omega (arith, at .loop .inv .1, c .if2 .taken)),
-    )
+    means-false (climbing-left _ _ (c .before .before .before .loop .inv) (omega arith) (search needs) (c .if2 .taken))
 
 mul-x-2 : tie.Need-mul-x-2 Inv-loop μ-loop
 mul-x-2 c = search needs
@@ -54,7 +42,7 @@ shared-slice-read-x-2 : tie.Need-shared-slice-read-x-2 Inv-loop μ-loop
 shared-slice-read-x-2 c = search needs
 
 cast-x-2 : tie.Need-cast-x-2 Inv-loop μ-loop
-cast-x-2 c = omega (arith, c .shared-slice-known2 .given (c .before .before .before .before .loop .x))
+cast-x-2 c = omega (arith, c .shared-slice-known2 .given (turn c .loop .x))
 
 add-k : tie.Need-add-k Inv-loop μ-loop
 add-k c = search needs
@@ -63,23 +51,11 @@ loop-less : tie.Need-loop-less Inv-loop μ-loop
 loop-less c = search needs
 
 loop-again : tie.Need-loop-again Inv-loop μ-loop
-loop-again c =
-    let at = c .before .before .before .before in
-    let s = at .before .before in (
-      search needs,
-      walk-more (s .args .up .now) (s .args .n) (s .args .c) (at .loop .k) (at .loop .x)
-          (omega (arith, c .before .if2 .left)) (at .loop .inv .1),
-      below-more _ _ (at .loop .inv .2)
-          (λ e. c .before .before .if1 .left (at .loop .inv .1 ∙ e)),
-    )
+loop-again c = climbing-on _ _ (turn c .loop .inv) (search needs) (search needs) (c .before .before .if1 .left)
 
 returns-3 : tie.Need-returns-3 Inv-loop μ-loop
 returns-3 c =
-    let s = c .before .before .before in (
-      λ e. absurd (false≢true e),
-      λ e. back-none (s .args .up .now) (s .args .n) (omega (arith, s .pre .1)) (s .args .c)
-          (s .pre .2) (c .before .loop .k) (c .before .loop .inv .2) (c .loop-test .left),
-    )
+    means-false (climbing-ends _ _ (c .before .loop .inv) (omega arith) (search needs) (c .loop-test .left))
 
 pub comes-back-spec : {M : Type 1} → statement M
 comes-back-spec =

@@ -20,9 +20,7 @@ comes-back-requires : tie.Need-comes-back-requires Inv-loop μ-loop
 comes-back-requires c κs = search needs
 
 returns : tie.Need-returns Inv-loop μ-loop
-returns c =
-    least-found _ (c .before .before .loop-test .taken) (c .before .before .before .loop .inv .1)
-    (c .before .comes-back .ensures .0 (c .if1 .taken))
+returns c = least-found _ (search needs) (search needs) (c .before .comes-back .ensures .passed (c .if1 .taken))
 
 add-i : tie.Need-add-i Inv-loop μ-loop
 add-i c = search needs
@@ -31,11 +29,8 @@ loop-less : tie.Need-loop-less Inv-loop μ-loop
 loop-less c = search needs
 
 loop-again : tie.Need-loop-again Inv-loop μ-loop
-loop-again c = (
-  search needs,
-  before-more _ _ (c .before .before .before .loop .inv .1)
-      (c .before .comes-back .ensures .1 (c .if1 .left)),
-)
+loop-again c =
+    (search needs, before-more _ _ (search needs) (c .before .comes-back .ensures .failed (c .if1 .left)))
 
 returns-2 : tie.Need-returns-2 Inv-loop μ-loop
 returns-2 c = least-missed _ (λ i h. c .before .loop .inv .1 i (omega arith))

@@ -7,7 +7,7 @@ settled-requires : tie.Need-settled-requires
 settled-requires c κs = search needs
 
 returns : tie.Need-returns
-returns c = least-missed _ (c .before .settled .ensures .0 (c .if1 .taken))
+returns c = least-missed _ (c .before .settled .ensures .passed (c .if1 .taken))
 
 find-back-requires : tie.Need-find-back-requires
 find-back-requires c κs = search needs
