@@ -13,39 +13,51 @@ use Rattle.tables.specs.Instants.{Now}
 use Rattle.history.specs.History.{History, Ruled}
 use Rattle.history.specs.Faults.{Holds}
 use Rattle.history.specs.Verdict.{Faultless, Verdict, accepted, refused, Names, none, first}
+use Rattle.history.specs.Until.{Until}
 use Rattle.history.specs.Computed.{faultsSay}
-use Rattle.history.proofs.ChangeLaws.{fault-back}
-use Rattle.history.proofs.ExistsLaws.{faults-named}
-use Rattle.faults.specs.Until.{After, Until}
+use Rattle.history.proofs.LineLaws.{fault-back, start-faultless}
+use Rattle.history.proofs.SayLaws.{faults-named}
+use Rattle.history.proofs.UntilLaws.{until-reaches, until-calm}
+use Rattle.verdict.specs.Swept.{Swept}
 
-module _ (H : History) (r : Ruled H) (t : ℕ) (clean : (s : ℕ) → s < t → Faultless H s) where
-  -- an answer that names a fault is the verdict
-  pub sweep-found : {a : Answer} → t ≤ Now → a ≡ faultsSay H t → refuses a ≡ true → Verdict H a
-  sweep-found {a} now e f = at (subst (Names (Holds H t) t) (sym e) (faults-named H t r)) f
+-- before the start there is no fault
+pub sweep-starts : {H : History} → Ruled H → H .start ≤ Now → Swept H (H .start)
+sweep-starts {H} r h = record { instant = h; clean = start-faultless H r h }
+
+-- by the answer at t
+module _ (H : History) {t : ℕ} {a : Answer} (e : a ≡ faultsSay H t) (r : Ruled H) (w : Swept H t) where
+  named : Names (Holds H t) t a
+  named = subst (Names (Holds H t) t) (sym e) (faults-named H t r)
+
+  -- one that names a fault is the verdict
+  pub sweep-found : refuses a ≡ true → Verdict H a
+  sweep-found = at named
     where
       at : {a : Answer} → Names (Holds H t) t a → refuses a ≡ true → Verdict H a
       at (none n) f = absurd (false≢true f)
-      at (first x) f = refused (record { instant = now; fault = x; earliest = clean })
+      at (first x) f = refused (record { instant = w .instant; fault = x; earliest = w .clean })
 
-  -- one that does not shows that there is no fault at t
-  pub sweep-clean : {a : Answer} → a ≡ faultsSay H t → refuses a ≡ false → Faultless H t
-  sweep-clean {a} e f = at (subst (Names (Holds H t) t) (sym e) (faults-named H t r)) f
-    where
-      at : {a : Answer} → Names (Holds H t) t a → refuses a ≡ false → Faultless H t
-      at (none n) f = n
-      at (first {f = g} x) f = absurd (false≢true (sym f ∙ faulty-refuses t g))
+  -- one that does not shows that there is no fault at t, and so none up to the next change
+  module _ (f : refuses a ≡ false) {u : ℕ} (until : Until H t u) where
+    clean : {a : Answer} → Names (Holds H t) t a → refuses a ≡ false → Faultless H t
+    clean (none n) f = n
+    clean (first {f = g} x) f = absurd (false≢true (sym f ∙ faulty-refuses t g))
 
-  -- and so there is none up to the next change
-  pub sweep-on : Faultless H t → {u : ℕ} → u ≤ Now → Until (After H t) u → (s : ℕ) → s < u + 1 → Faultless H s
-  sweep-on here {u} now calm s h = go (decLe t s)
-    where
-      go : Dec (t ≤ s) → Faultless H s
-      go (yes l) f x = here f (fault-back H t s (omega arith) l (λ c a b y. calm .before c (omega arith) (a, y)) f x)
-      go (no l) f x = clean s (omega arith) f x
+    calm : (s : ℕ) → s ≤ u → Faultless H s
+    calm s h = go (decLe t s)
+      where
+        go : Dec (t ≤ s) → Faultless H s
+        go (yes l) g x =
+            clean named f g
+            (fault-back H t s (omega (arith, until .instant)) l (λ c a b. until-calm H t until c a (omega arith)) g x)
+        go (no l) g x = w .clean s (omega arith) g x
 
-  pub sweep-done : Faultless H t → Until (After H t) Now → Verdict H passed
-  sweep-done here calm = accepted (λ s h. sweep-on here (omega arith) calm s (omega arith))
+    -- which is later
+    pub sweep-later : t < u + 1
+    sweep-later = omega (arith, until-reaches H t until (w .instant))
 
--- the next change is later
-pub change-later : (H : History) (t : ℕ) {u : ℕ} → u ≤ Now → (u ≡ Now → ⊥) → Until (After H t) u → t < u + 1
-change-later H t {u} now ne calm = omega (arith, calm .here (omega arith) .0)
+    pub sweep-on : (u ≡ Now → ⊥) → Swept H (u + 1)
+    sweep-on ne = record { instant = omega (arith, until .instant); clean = λ s h. calm s (omega arith) }
+
+    pub sweep-done : u ≡ Now → Verdict H passed
+    sweep-done q = accepted (λ s h. calm s (omega arith))

@@ -1,21 +1,18 @@
 // The call check: codes 1 to 5, then the earliest fault, found by a sweep over the change instants.
-ghost use Prim.Native.Nat.{ℕ, _<_, _≤_};
-ghost use lib.ListN.{length};
 ghost use Rattle.tables.specs.Rows.{edgeAt};
-ghost use Rattle.history.specs.History.{historyOf, Lent};
-ghost use Rattle.history.specs.Verdict.{Faultless, Verdict};
-ghost use Rattle.faults.specs.Stays.{Stays};
+ghost use Rattle.tables.specs.Tables.{lent};
+ghost use Rattle.history.specs.History.{historyOf, LentRows};
+ghost use Rattle.history.specs.Verdict.{Verdict};
+ghost use Rattle.faults.specs.Stays.{Bounds};
 ghost use Rattle.verdict.specs.Checked.{Checked};
+ghost use Rattle.verdict.specs.Swept.{Swept};
 use answers::Answer;
 use faults::judge::judge;
 use faults::stays::note_rows;
 use faults::until::until;
-use tables::judge::MOST_NODES;
 use tables::judge::judge_history;
 use tables::label::NOW;
-use tables::rows::edge_count;
-use tables::rows::node_count;
-use tables::rows::ref_count;
+use tables::sizes::MOST_NODES;
 
 // The sweep from an instant before which there is no fault. Between two change instants nothing changes, so it looks at
 // these alone.
@@ -30,10 +27,9 @@ fn sweep_from(
     last: &[u32],
     from: u32,
 ) -> Answer
-    requires { ⌜ Lent start n (now edges) m (now refs) k ⌝ }
-    requires { ⌜ (n ≤ length (now first)) × (n ≤ length (now last)) × Stays (edgeAt (now edges)) m (now first)
-        (now last) ⌝ }
-    requires { ⌜ ((s : ℕ) → s < from → Faultless (historyOf start n (now edges) m (now refs) k) s) ⌝ }
+    requires { ⌜ LentRows start n (now edges) m (now refs) k ⌝ }
+    requires { ⌜ Bounds m (edgeAt (now edges)) n (now first) (now last) ⌝ }
+    requires { ⌜ Swept (historyOf start n (now edges) m (now refs) k) from ⌝ }
     ensures { λ r. ⌜ Verdict (historyOf start n (now (edges .entry)) m (now (refs .entry)) k) r ⌝ }
 {
     let mut t = from;
@@ -52,7 +48,7 @@ fn sweep_from(
 
 // The verdict on tables that obey the rules.
 fn sweep(start: u32, n: usize, edges: &[u32], m: usize, refs: &[u32], k: usize) -> Answer
-    requires { ⌜ Lent start n (now edges) m (now refs) k ⌝ }
+    requires { ⌜ LentRows start n (now edges) m (now refs) k ⌝ }
     ensures { λ r. ⌜ Verdict (historyOf start n (now (edges .entry)) m (now (refs .entry)) k) r ⌝ }
 {
     let mut first = [NOW; MOST_NODES];
@@ -61,19 +57,20 @@ fn sweep(start: u32, n: usize, edges: &[u32], m: usize, refs: &[u32], k: usize) 
     sweep_from(start, n, edges, m, refs, k, &first, &last, start)
 }
 
-pub fn check(start: u32, nodes: &[u32], edges: &[u32], refs: &[u32]) -> Answer
-    ensures { λ r. ⌜ Checked start (now (nodes .entry)) (now (edges .entry)) (now (refs .entry)) r ⌝ }
+pub fn check(
+    start: u32,
+    nodes: &[u32],
+    n: usize,
+    edges: &[u32],
+    m: usize,
+    refs: &[u32],
+    k: usize,
+) -> Answer
+    ensures { λ r. ⌜ Checked (lent start (now (nodes .entry)) n (now (edges .entry)) m (now (refs .entry)) k) r ⌝ }
 {
-    let rules = judge_history(start, nodes, edges, refs);
+    let rules = judge_history(start, nodes, n, edges, m, refs, k);
     if rules.refuses() {
         return rules;
     }
-    sweep(
-        start,
-        node_count(nodes),
-        edges,
-        edge_count(edges),
-        refs,
-        ref_count(refs),
-    )
+    sweep(start, n, edges, m, refs, k)
 }

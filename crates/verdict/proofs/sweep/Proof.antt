@@ -1,18 +1,11 @@
-use native.Mathlib.Omega.{arith}
 use mathlib.Core.Path.{refl}
-use denote.Ref.{now}
-use Rattle.tables.specs.Rows.{edgeAt}
-use Rattle.tables.specs.Rules.{mostNodes}
-use Rattle.history.specs.History.{History, historyOf}
-use Rattle.history.proofs.RuledLaws.{start-faultless}
-use Rattle.faults.proofs.SlotLaws.{below-wide}
+use Rattle.tables.specs.Sizes.{mostNodes}
+use Rattle.faults.proofs.SlotLaws.{lent-fit}
 use Rattle.faults.proofs.StayLaws.{stays-none}
+use Rattle.verdict.proofs.SweepLaws.{sweep-starts}
 use borrow.Author.Needs.{needs}
 use Rattle.verdict.proofs.sweep.Statement.{statement}
 use Rattle.verdict.proofs.sweep.Tie as tie
-
-abbrev H : tie.Start → History
-H a = historyOf (a .args .start) (a .args .n) (now (a .args .edges)) (a .args .m) (now (a .args .refs)) (a .args .k)
 
 slice-aggregate-note-rows : tie.Need-slice-aggregate-note-rows
 slice-aggregate-note-rows c = search needs
@@ -22,11 +15,11 @@ slice-aggregate-note-rows-2 c = search needs
 
 note-rows-requires : tie.Need-note-rows-requires
 note-rows-requires c κs =
-    let a = c .before .before .before .before in (
-      (a .pre .edge-rows, below-wide (H a) (a .pre .ruled) mostNodes (a .pre .ruled .few-nodes), refl),
-      stays-none
-          (edgeAt (now (a .args .edges))) mostNodes,
-    )
+    record {
+      fit = lent-fit (c .before .before .before .before .pre) mostNodes (search needs);
+      same = refl;
+      stays = stays-none _ mostNodes;
+    }
 
 slice-aggregate-sweep-from : tie.Need-slice-aggregate-sweep-from
 slice-aggregate-sweep-from c = search needs
@@ -35,20 +28,7 @@ slice-aggregate-sweep-from-2 : tie.Need-slice-aggregate-sweep-from-2
 slice-aggregate-sweep-from-2 c = search needs
 
 sweep-from-requires : tie.Need-sweep-from-requires
-sweep-from-requires c κs =
-    let a = c .before .before .before .before .before .before .before .before .before in
-    let few = a .pre .ruled .few-nodes in (
-      a .pre,
-      (
-        (
-          omega (arith, c .before .before .before .before .note-rows .kept .1 .1 .0),
-          omega
-              (arith, c .before .before .before .before .note-rows .kept .1 .1 .1 .0),
-          c .before .before .before .before .note-rows .ensures,
-        ),
-        start-faultless (H a) (a .pre .ruled),
-      ),
-    )
+sweep-from-requires c κs = (search needs, (search needs, sweep-starts (search needs) (search needs)))
 
 returns : tie.Need-returns
 returns c = search needs
