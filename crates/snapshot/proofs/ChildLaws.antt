@@ -17,7 +17,7 @@ use Rattle.ground.proofs.SumLaws.{sum-zero, sum-one}
 use Rattle.tables.specs.Instants.{During}
 use Rattle.tables.specs.Rows.{Edge}
 use Rattle.tables.proofs.LabelLaws.{during-tells}
-use Rattle.history.specs.Faults.{Below}
+use Rattle.history.specs.Faults.{NodesBelow}
 use Rattle.history.specs.Computed.{isInto}
 use Rattle.snapshot.specs.Snapshot.{below, isChild, childrenAt}
 use Rattle.snapshot.specs.Exact.{occurs, IsChild, Children}
@@ -88,7 +88,7 @@ module _ (m : ℕ) (E : ℕ → Edge) (t : ℕ) where
         λ (i, x, q). (i, x .row, (q, (x .into, x .force))),
       )
 
-  pub children-hold : (n : ℕ) → Below m E n → Children m E t (childrenAt m E t n)
+  pub children-hold : (n : ℕ) → NodesBelow m E n → Children m E t (childrenAt m E t n)
   children-hold n b =
       record {
         held =

@@ -6,8 +6,8 @@ pub mod CountLaws
 pub mod ChildLaws
 pub mod ExactLaws
 pub mod DepthLaws
-pub mod OutcomeLaws
 pub mod RowLaws
+pub mod ReadyLaws
 pub mod ShowLaws
 pub mod AnswersLaws
 pub mod Contained

@@ -47,38 +47,41 @@ pub record Part (kids : ℕ → List ℕ) (left p n : ℕ) (ρ : ℕ → ℕ) (o
   pub rows : k ≡ length done
   pub holds : out ≡ flat ρ done ++ drop (k * rowWidth) out₀
 
-module _ (kids : ℕ → List ℕ) (left p n : ℕ) (ρ : ℕ → ℕ) (out₀ : List ℕ) where
-  abbrev here : Place
-  here = record { node = n; parent = p }
+-- a node under its parent, and the walk of a child c of n
+abbrev placed : ℕ → ℕ → Place
+placed p n = record { node = n; parent = p }
 
+abbrev below : (ℕ → List ℕ) → ℕ → ℕ → ℕ → List Place
+below kids left n c = subtree kids (left - 1) n c
+
+module _ {kids : ℕ → List ℕ} {left p n : ℕ} {ρ : ℕ → ℕ} {out₀ : List ℕ} where
   pub part-start : (back : List ℕ) → 0 < left → length (subtree kids left p n) * rowWidth ≤ length out₀
-      → out₀ ≡ rowOf ρ here ++ back
+      → out₀ ≡ rowOf ρ (placed p n) ++ back
       → Part kids left p n ρ out₀ out₀ 1 (kids n)
   unfolding flat each
   part-start back h f e =
-      record { some = h; fits = f; done = here ∷ []; splits = peel kids left p n h; rows = refl; holds = rw e }
+      record { some = h; fits = f; done = placed p n ∷ []; splits = peel kids left p n h; rows = refl; holds = rw e }
 
-  module _ (out : List ℕ) (k : ℕ) where
-    pub part-long : (rest : List ℕ) → Part kids left p n ρ out₀ out k rest
+  module _ {out : List ℕ} {k : ℕ} where
+    pub part-long : {rest : List ℕ} → Part kids left p n ρ out₀ out k rest
         → (k * rowWidth ≤ length out₀) × (length out ≡ length out₀)
-    part-long rest a =
+    part-long a =
         let d = a .done in
         let all = simp length-append at (ap length (a .splits)) in
         let b : k * rowWidth ≤ length out₀ = omega (arith, a .fits, a .rows, all) in
         (b, omega (arith, a .rows, simp (length-append, length-drop) at (ap length (a .holds)), flat-length ρ d))
 
-    module _ (c : ℕ) (rest : List ℕ) (a : Part kids left p n ρ out₀ out k (c ∷ rest)) where
-      abbrev child : List Place
-      child = subtree kids (left - 1) n c
-
-      pub part-room : (k + length child) * rowWidth ≤ length out
+    module _ {c : ℕ} {rest : List ℕ} (a : Part kids left p n ρ out₀ out k (c ∷ rest)) where
+      pub part-room : (k + length (below kids left n c)) * rowWidth ≤ length out
       unfolding each
       part-room =
           let all = simp length-append at (ap length (a .splits)) in
-          omega (arith, a .fits, a .rows, part-long (c ∷ rest) a .1, all)
+          omega (arith, a .fits, a .rows, part-long a .1, all)
 
-      pub part-fill : (r : ℕ) (last : List ℕ) → r ≡ length child
-          → last ≡ flat ρ child ++ drop (r * rowWidth) (take (length out - k * rowWidth) (drop (k * rowWidth) out))
+      pub part-fill : (r : ℕ) (last : List ℕ) → r ≡ length (below kids left n c)
+          → last
+          ≡ flat ρ (below kids left n c)
+          ++ drop (r * rowWidth) (take (length out - k * rowWidth) (drop (k * rowWidth) out))
           → Part kids left p n ρ out₀
           (take (k * rowWidth) out ++ (last ++ drop (length out - k * rowWidth) (drop (k * rowWidth) out))) (k + r) rest
       unfolding each
@@ -86,23 +89,24 @@ module _ (kids : ℕ → List ℕ) (left p n : ℕ) (ρ : ℕ → ℕ) (out₀ :
           rw (part-rest, append-nil) (record {
             some = a .some;
             fits = a .fits;
-            done = a .done ++ child;
+            done = a .done ++ below kids left n c;
             splits = rw append-assoc (a .splits);
-            rows = omega (arith, a .rows, length-append (a .done) child);
+            rows = omega (arith, a .rows, length-append (a .done) (below kids left n c));
             holds =
-                part-filled ρ (a .done) child (k * rowWidth) k r out₀ out last (a .rows) refl (a .holds)
-                (rw part-all at hl);
+                part-filled ρ (a .done) (below kids left n c) (k * rowWidth) k r out₀ out last (a .rows) refl
+                (a .holds) (rw part-all at hl);
           })
 
     -- no child is left. `entry` is the output before the row of n was put
-    pub part-end : (entry : List ℕ) → Part kids left p n ρ out₀ out k [] → out₀ ≡ rowOf ρ here ++ drop rowWidth entry
+    pub part-end : (entry : List ℕ) → Part kids left p n ρ out₀ out k []
+        → out₀ ≡ rowOf ρ (placed p n) ++ drop rowWidth entry
         → (k ≡ length (subtree kids left p n)) × (out ≡ flat ρ (subtree kids left p n) ++ drop (k * rowWidth) entry)
     unfolding each
     part-end entry a e =
         let w : a .done ≡ subtree kids left p n = sym (a .splits ∙ append-nil (a .done)) in
         let more : 0 < k = omega (arith, a .rows, ap length w, ap length (peel kids left p n (a .some))) in
         let d : drop (k * rowWidth) out₀ ≡ drop (k * rowWidth) entry
-        = ap (drop (k * rowWidth)) e ∙ after-front (rowOf ρ here) k entry refl more in
+        = ap (drop (k * rowWidth)) e ∙ after-front (rowOf ρ (placed p n)) k entry refl more in
         (a .rows ∙ ap length w, a .holds ∙ ap₂ (λ x y. flat ρ x ++ y) w d)
 
 -- with no node left, nothing is written

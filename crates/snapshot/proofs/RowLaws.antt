@@ -10,15 +10,20 @@ use lib.ListN.{length, getD}
 use Rattle.ground.specs.Sums.{bit, count}
 use Rattle.ground.proofs.TestLaws.{tells-and, tells-not, tells-eq, tells-lt}
 use Rattle.ground.proofs.SumLaws.{sum-ext}
-use Rattle.answers.specs.declared.Fault.the-variants.{Overlap, Outside, Cycle}
+use Rattle.answers.specs.declared.Kind.the-variants as kind
+use Rattle.answers.specs.Numbers.{fault}
 use Rattle.history.specs.History.{History, Ruled}
-use Rattle.history.specs.Faults.{Into, Here, overlap, outside, cycle}
+use Rattle.history.specs.Faults.{Into, Overlap, Here}
 use Rattle.history.proofs.ComputedLaws.{present-tells}
 use Rattle.history.proofs.RuledLaws.{ruled-below}
 use Rattle.history.proofs.Tree.{Tree}
-use Rattle.faults.specs.Slots.{Leads, Slot, Slots, empty, single, several}
+use Rattle.faults.proofs.WalkLaws.{above-in}
+use Rattle.faults.proofs.LeafLaws.{slot-row, row-slot}
+use Rattle.faults.proofs.JudgeLaws.{view}
+use Rattle.faults.specs.Judged.{Seen}
 use Rattle.tables.specs.Rows.{noNode}
-use Rattle.snapshot.specs.Snapshot.{isChild, childrenOf, placesOf, NoneShown}
+use Rattle.snapshot.specs.Ready.{NoneShown}
+use Rattle.snapshot.specs.Snapshot.{isChild, childrenOf, placesOf}
 use Rattle.snapshot.specs.Lists.{kidsBy, placesBy}
 use Rattle.snapshot.specs.Exact.{Children, isOther, Exact}
 use Rattle.snapshot.proofs.WalkLaws.{subtree-ext}
@@ -29,9 +34,9 @@ module _ (H : History) (t : ℕ) where
   pub none-tree : NoneShown H t → Tree (H .edges) (H .edge) t
   none-tree none =
       record {
-        no-overlap = λ n x. none (Overlap n) (overlap x, omega arith);
-        no-outside = λ n x. none (Outside n) (outside x, omega arith);
-        no-cycle = λ n x. none (Cycle n) (cycle x, omega arith);
+        no-overlap = λ n x. none (fault kind.Overlap n) (x, omega arith);
+        no-outside = λ n x. none (fault kind.Outside n) (x, omega arith);
+        no-cycle = λ n x. none (fault kind.Cycle n) (x, omega arith);
       }
 
   module _ (r : Ruled H) where
@@ -42,60 +47,50 @@ module _ (H : History) (t : ℕ) where
       pub places-exact : Exact H t (placesOf H t)
       places-exact = exact H t r (none-tree none) begun _ children
 
-      -- the parents, by the slots of the nodes
-      module _ (parents : List ℕ) (long : H .nodes ≤ length parents)
-          (slots : Slots (H .edge) t (H .edges) parents) where
-        into : (c j : ℕ) → j < H .edges → Leads (H .edge) t c j → Into (H .edges) (H .edge) t c j
-        into c j h l = record { row = h; into = l .0; force = l .1 }
+  -- the parents, by the slots of the nodes
+  module _ (begun : H .start ≤ t) (none : NoneShown H t) {parents : List ℕ} (seen : Seen H t parents) where
+    sole : (c : ℕ) → Overlap (H .edges) (H .edge) t c → ⊥
+    sole = none-tree none .no-overlap
 
-        parent-is : (c i : ℕ) → c < H .nodes → Into (H .edges) (H .edge) t c i → getD parents c 0 ≡ H .edge i .parent
-        parent-is c i h p = go (slots c (omega arith))
-          where
-            go : Slot (Leads (H .edge) t c) (λ j. H .edge j .parent) (H .edges) (getD parents c 0)
-                → getD parents c 0 ≡ H .edge i .parent
-            go (empty e f) = absurd (f i (p .row) (p .into, p .force))
-            go (single j g l e same) = e ∙ ap (λ k. H .edge k .parent) (sym (same i (p .row) (p .into, p .force)))
-            go (several e j k jk g l l′) =
-                absurd (none-tree none .no-overlap c (j, k, jk, into c j (omega arith) l, into c k g l′))
+    pub parent-is : (c i : ℕ) → c < H .nodes → Into (H .edges) (H .edge) t c i → getD parents c 0 ≡ H .edge i .parent
+    parent-is c i h p = slot-row (view seen) sole c i h p
 
-        -- where a node stands, a row in force leads into the child
-        some-row : (c : ℕ) → c < H .nodes → getD parents c 0 < H .nodes → (i : ℕ) × Into (H .edges) (H .edge) t c i
-        some-row c h g = go (slots c (omega arith))
-          where
-            go : Slot (Leads (H .edge) t c) (λ j. H .edge j .parent) (H .edges) (getD parents c 0)
-                → (i : ℕ) × Into (H .edges) (H .edge) t c i
-            go (empty e f) = absurd (omega (arith, r .few-nodes))
-            go (single j k l e same) = (j, into c j k l)
-            go (several e j k jk l _ _) = absurd (omega (arith, r .few-nodes))
+    -- where a node stands, a row in force leads into the child
+    pub some-row : (c : ℕ) → c < H .nodes → getD parents c 0 < H .nodes → (i : ℕ) × Into (H .edges) (H .edge) t c i
+    some-row c h g =
+        let (i, p, _) = row-slot (view seen) sole c h (rw (above-in parents (H .nodes) c h) g) in
+        (i, p)
 
-        child-same : (n c : ℕ) → n < H .nodes → c < H .nodes
-            → eqb (getD parents c 0) n ≡ isChild (H .edges) (H .edge) t n c
-        child-same n c hn hc =
-            tells-same _ _ (Iff·trans (tells-eq (getD parents c 0) n) (
-              λ e. let (i, p) = some-row c hc (omega arith) in (i, p, sym (parent-is c i hc p) ∙ e),
-              λ (i, p, e). parent-is c i hc p ∙ e,
-            )) (child-tells (H .edges) (H .edge) t n c)
+    child-same : (n c : ℕ) → n < H .nodes → c < H .nodes
+        → eqb (getD parents c 0) n ≡ isChild (H .edges) (H .edge) t n c
+    child-same n c hn hc =
+        tells-same _ _ (Iff·trans (tells-eq (getD parents c 0) n) (
+          λ e. let (i, p) = some-row c hc (omega arith) in (i, p, sym (parent-is c i hc p) ∙ e),
+          λ (i, p, e). parent-is c i hc p ∙ e,
+        )) (child-tells (H .edges) (H .edge) t n c)
 
-        other-same : (c : ℕ) → c < H .nodes → ltb (getD parents c 0) (H .nodes) ≡ isOther H t c
-        other-same c hc =
-            tells-same _ _ (Iff·trans (tells-lt (getD parents c 0) (H .nodes)) (
-              λ g.
-                  let (i, p) = some-row c hc g in
-                  let ne : c ≢ 0 = λ e. r .edge-ruled i (p .row) .not-root (p .into ∙ e) in
-                  (ne, inr (ne, (i, p))),
-              λ (ne, h). under ne h,
-            )) (tells-and _ _ (tells-not _ (tells-eq c 0)) (present-tells (H .edges) (H .edge) t (H .start) c))
-          where
-            under : c ≢ 0 → Here H t c → getD parents c 0 < H .nodes
-            under ne (inl (e, _)) = absurd (ne e)
-            under ne (inr (_, (i, p))) = omega (arith, parent-is c i hc p, ruled-below H r i (p .row) .0)
+    other-same : (c : ℕ) → c < H .nodes → ltb (getD parents c 0) (H .nodes) ≡ isOther H t c
+    other-same c hc =
+        tells-same _ _ (Iff·trans (tells-lt (getD parents c 0) (H .nodes)) (
+          λ g.
+              let (i, p) = some-row c hc g in
+              let ne : c ≢ 0 = λ e. seen .ruled .edge-ruled i (p .row) .not-root (p .into ∙ e) in
+              (ne, inr (ne, (i, p))),
+          λ (ne, h). under ne h,
+        )) (tells-and _ _ (tells-not _ (tells-eq c 0)) (present-tells (H .edges) (H .edge) t (H .start) c))
+      where
+        under : c ≢ 0 → Here H t c → getD parents c 0 < H .nodes
+        under ne (inl (e, _)) = absurd (ne e)
+        under ne (inr (_, (i, p))) = omega (arith, parent-is c i hc p, ruled-below H (seen .ruled) i (p .row) .0)
 
-        pub counted : 1 + count (λ c. ltb (getD parents c 0) (H .nodes)) (H .nodes) ≡ length (placesOf H t)
-        counted = ap (λ k. 1 + k) (sum-ext _ _ (H .nodes) (λ c h. ap bit (other-same c h))) ∙ sym (places-exact .number)
+    pub counted : 1 + count (λ c. ltb (getD parents c 0) (H .nodes)) (H .nodes) ≡ length (placesOf H t)
+    counted =
+        ap (λ k. 1 + k) (sum-ext _ _ (H .nodes) (λ c h. ap bit (other-same c h)))
+        ∙ sym (places-exact (seen .ruled) begun none .number)
 
-        -- the walk by the slots is that of the snapshot
-        pub walked : placesBy parents (H .nodes) ≡ placesOf H t
-        walked =
-            subtree-ext (λ x. x < H .nodes) (kidsBy parents (H .nodes)) (childrenOf H t)
-            (λ n h. below-ext _ _ (H .nodes) (λ c g. child-same n c h g)) (λ n h. below-all _ (H .nodes))
-            (H .nodes) noNode 0 (r .root)
+    -- the walk by the slots is that of the snapshot
+    pub walked : placesBy parents (H .nodes) ≡ placesOf H t
+    walked =
+        subtree-ext (λ x. x < H .nodes) (kidsBy parents (H .nodes)) (childrenOf H t)
+        (λ n h. below-ext _ _ (H .nodes) (λ c g. child-same n c h g)) (λ n h. below-all _ (H .nodes))
+        (H .nodes) noNode 0 (seen .ruled .root)

@@ -4,24 +4,50 @@ use mathlib.Core.Path.{_≡_, ap, ap₂, _∙_}
 use mathlib.Core.List.{List, _++_}
 use Prim.Native.Nat.{ℕ, _*_, _≤_, _<_}
 use native.Mathlib.Omega.{arith}
-use lib.ListN.{length, getD, drop}
+use lib.ListN.{length, getD, drop, replicate, getD-replicate, length-replicate}
 use Rattle.ground.specs.Lists.{front, All}
-use Rattle.tables.specs.Rows.{noNode, Ref}
+use Rattle.tables.specs.Rows.{noNode, Ref, refAt}
+use Rattle.tables.specs.Sizes.{mostNodes}
 use Rattle.snapshot.specs.Walk.{Place, subtree, rowWidth, flat}
 use Rattle.snapshot.specs.Snapshot.{referentAt}
-use Rattle.snapshot.specs.Lists.{Lists, kidsOf, kidsBy, placesBy}
+use Rattle.snapshot.specs.Lists.{Lists, Blank, Links, links, linkFrom, kidsOf, Runs, kidsBy, placesBy}
+use Rattle.snapshot.specs.Lists.{Walkable, Walked, Showable}
+use Rattle.snapshot.proofs.LinkLaws.{link-runs, link-shows}
 use Rattle.snapshot.proofs.WalkLaws.{flat-length, flat-ext, subtree-ext}
 use Rattle.snapshot.proofs.CountLaws.{walk-all}
 use Rattle.snapshot.proofs.ChildLaws.{below-all}
 
-module _ (parents : List ℕ) (n : ℕ) (some : 0 < n) where
+-- a list that is made of noNode alone
+abbrev pub blanks : List ℕ
+blanks = replicate mostNodes noNode
+
+pub blanks-length : length blanks ≡ mostNodes
+blanks-length = length-replicate mostNodes noNode
+
+pub blanks-blank : Blank blanks
+blanks-blank n h = getD-replicate mostNodes n noNode 0 (rw blanks-length at h)
+
+module _ (parents : List ℕ) (n : ℕ) (some : 0 < n) (few : n ≤ mostNodes) where
   kids-below : (p : ℕ) → All (λ c. c < n) (kidsBy parents n p)
   kids-below p = below-all _ n
 
-  pub show-walk : (first next : List ℕ) → ((p : ℕ) → p < n → kidsOf first next n p ≡ kidsBy parents n p)
-      → subtree (kidsOf first next n) n noNode 0 ≡ placesBy parents n
-  show-walk first next same =
-      subtree-ext (λ x. x < n) (kidsOf first next n) (kidsBy parents n) same (λ p h. kids-below p) n noNode 0 some
+  -- the links of the parents, made from such lists
+  module _ (l : Links) (made : l ≡ linkFrom parents n n (links blanks blanks)) where
+    fits : n ≤ length blanks
+    fits = rw blanks-length few
+
+    pub made-runs : Runs (l .first) (l .next) n
+    made-runs =
+        link-runs parents n (links blanks blanks) l made (omega arith) fits fits blanks-blank blanks-blank
+
+    pub made-kids : (p : ℕ) → p < n → kidsOf (l .first) (l .next) n p ≡ kidsBy parents n p
+    made-kids =
+        link-shows parents n (links blanks blanks) l made (omega arith) fits fits blanks-blank blanks-blank
+
+    pub made-walk : subtree (kidsOf (l .first) (l .next) n) n noNode 0 ≡ placesBy parents n
+    made-walk =
+        subtree-ext (λ x. x < n) (kidsOf (l .first) (l .next) n) (kidsBy parents n) made-kids (λ p h. kids-below p) n
+        noNode 0 some
 
   pub show-rows : (k : ℕ) (R : ℕ → Ref) (t : ℕ) (referents : List ℕ) → n ≤ length referents
       → Lists (referentAt k R t) referents
@@ -37,3 +63,26 @@ pub show-out : (σ ρ : ℕ → ℕ) (qs ps : List Place) (r : ℕ) (before : Li
 show-out σ ρ qs ps r before e f h o =
     let k : r * rowWidth ≡ length (flat ρ ps) = omega (arith, flat-length ρ ps, h, ap length e) in
     o ∙ ap₂ (λ a b. a ++ drop b before) (ap (flat σ) e ∙ f) k
+
+-- what can be shown, with the links and the referents that were made of it
+module _ {parents : List ℕ} {n : ℕ} {refs : List ℕ} {k : ℕ} {out : List ℕ} (s : Showable parents n refs k out)
+    {first next : List ℕ} (made : links first next ≡ linkFrom parents n n (links blanks blanks)) where
+  same-walk : subtree (kidsOf first next n) n noNode 0 ≡ placesBy parents n
+  same-walk = made-walk parents n (s .some) (s .few) (links first next) made
+
+  pub show-walkable : {referents : List ℕ} → n ≤ length referents → Walkable first next referents n 0 noNode n out
+  show-walkable long =
+      record {
+        runs = made-runs parents n (s .some) (s .few) (links first next) made;
+        node-below = s .some;
+        listed = long;
+        room = omega (arith, ap length same-walk, s .room);
+      }
+
+  pub show-written : (t : ℕ) {referents : List ℕ} {r : ℕ} {after : List ℕ}
+      → Walked (subtree (kidsOf first next n) n noNode 0) referents out r after
+      → n ≤ length referents → Lists (referentAt k (refAt refs) t) referents
+      → after ≡ front (flat (referentAt k (refAt refs) t) (placesBy parents n)) out
+  show-written t {referents} w long listed =
+      show-out _ (referentAt k (refAt refs) t) _ _ _ _ same-walk
+      (show-rows parents n (s .some) (s .few) k (refAt refs) t referents long listed) (w .rows) (w .out)

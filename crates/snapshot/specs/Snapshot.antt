@@ -5,33 +5,27 @@
 --   valueAt      the number of the smallest row that passes a test
 --   refersFrom   reference row i is in force from a node; referentAt: a node's referent
 --   childrenOf, placesOf, rowsOf   the same of a history at an instant, and the numbers of its rows
---   roomSays     21; ruledSays: 23, faults, 24, 21; snapshotSays: 1 to 5, 23, faults, 24, 21
+--   roomSays     21 or the number of rows; snapshotSays: the refusals of what is not ready, then that
 --   written      what the output holds after an answer
---   Outcome      a function answers so, and leaves the output so
---   RuledSnapshot, CleanSnapshot   what is given once the tables are known to be so
---   NoneShown    no fault but GAP at an instant; Clean: the tables hold such a history
 -- Assumes nothing.
-use mathlib.Core.Path.{_≡_}
 use mathlib.Core.Bool.{Bool, cond, _&&_}
 use mathlib.Core.List.{List, [], _∷_, _++_}
-use Prim.Native.Nat.{ℕ, zero, suc, _*_, _≤_}
+use Prim.Native.Nat.{ℕ, zero, suc, _*_}
 use lib.Dec.{ltb, eqb}
 use lib.ListN.{length}
 use Rattle.ground.specs.Least.{any, least}
 use Rattle.ground.specs.Lists.{front}
-use Rattle.answers.specs.declared.Fault.{Fault}
 use Rattle.answers.specs.declared.Answer.{Answer}
-use Rattle.answers.specs.declared.Answer.the-variants.{Done, Early, Deep, Room}
+use Rattle.answers.specs.declared.Answer.the-variants.{Done, Room}
 use Rattle.answers.specs.Numbers.{refuses}
 use Rattle.answers.specs.Refusals.{when, _⨾_}
 use Rattle.tables.specs.Instants.{during}
-use Rattle.tables.specs.Rows.{Edge, Ref, noNode, edgeAt, refAt}
-use Rattle.tables.specs.Says.{historySays}
-use Rattle.history.specs.History.{History, historyOf, Lent, held}
-use Rattle.history.specs.Verdict.{Shown}
-use Rattle.history.specs.Computed.{isInto, shownSay}
+use Rattle.tables.specs.Rows.{Edge, Ref, noNode}
+use Rattle.tables.specs.Tables.{Tables}
+use Rattle.history.specs.History.{History, held}
+use Rattle.history.specs.Computed.{isInto}
 use Rattle.snapshot.specs.Walk.{Place, subtree, rowWidth, flat}
-use Rattle.snapshot.specs.Depth.{tooDeep}
+use Rattle.snapshot.specs.Ready.{readySays}
 
 unfoldable pub below : (ℕ → Bool) → ℕ → List ℕ
 below p zero = []
@@ -75,42 +69,13 @@ rowsOf H t = flat (referentAt (H .refs) (H .ref) t) (placesOf H t)
 unfoldable pub roomSays : ℕ → ℕ → ℕ → Answer
 roomSays t rows room = when (ltb room (rows * rowWidth)) (Room t rows) ⨾ Done t rows
 
--- [01:What the calls answer] Snapshot: "23, then the fault at t of smallest code and place with GAP set aside, 24, 21"
-unfoldable pub ruledSays : History → ℕ → ℕ → Answer
-ruledSays H t room =
-    when (ltb t (H .start)) (Early t)
-    ⨾ shownSay H t
-    ⨾ when (tooDeep H t) (Deep t)
-    ⨾ roomSays t (length (placesOf H t)) room
-
--- [01:What the calls answer] Snapshot: "1 to 5 in order, 23, .."
-unfoldable pub snapshotSays : ℕ → List ℕ → List ℕ → List ℕ → ℕ → ℕ → Answer
-snapshotSays start ns es rs t room = historySays start ns es rs ⨾ ruledSays (held start ns es rs) t room
+-- [01:What the calls answer] Snapshot: "1 to 5 in order, 23, then the fault at t of smallest code and place with GAP
+-- set aside, 24, 21"
+unfoldable pub snapshotSays : Tables → ℕ → ℕ → Answer
+snapshotSays L t room =
+    readySays L t ⨾ roomSays t (length (placesOf (held L) t)) room
 
 -- [01:What the calls answer] "the first 3k numbers of the output hold k rows, the rest unchanged"; "No refusal writes
 -- to a lent table or buffer."
 unfoldable pub written : Answer → List ℕ → List ℕ → List ℕ
 written a rows out = cond (refuses a) out (front rows out)
-
-pub record Outcome (a : Answer) (rows before : List ℕ) (r : Answer) (after : List ℕ) : Type 0 where
-  pub answer : r ≡ a
-  pub out : after ≡ written a rows before
-
--- what is given once the tables obey their rules; and once they are clean, so that only the room is to judge
-abbrev pub RuledSnapshot : History → ℕ → List ℕ → Answer → List ℕ → Type 0
-RuledSnapshot H t before = Outcome (ruledSays H t (length before)) (rowsOf H t) before
-
-abbrev pub CleanSnapshot : ℕ → List ℕ → ℕ → List ℕ → ℕ → ℕ → List ℕ → Answer → List ℕ → Type 0
-CleanSnapshot n es m rs k t before =
-    let places = placesAt m (edgeAt es) t n in
-    Outcome (roomSays t (length places) (length before)) (flat (referentAt k (refAt rs) t) places) before
-
--- no fault but GAP
-abbrev pub NoneShown : History → ℕ → Type 0
-NoneShown H t = (f : Fault) → Shown H t f → ⊥
-
-pub record Clean (n : ℕ) (es : List ℕ) (m : ℕ) (rs : List ℕ) (k t : ℕ) : Type 0 where
-  pub start : ℕ
-  pub lent : Lent start n es m rs k
-  pub begun : start ≤ t
-  pub none : NoneShown (historyOf start n es m rs k) t

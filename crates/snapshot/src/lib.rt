@@ -1,40 +1,33 @@
 // The call snapshot: what a history contains at an instant.
 ghost use mathlib.Core.Path.{_≡_};
-ghost use Prim.Native.Nat.{ℕ, _*_, _≤_, _<_};
-ghost use lib.ListN.{length};
 ghost use Rattle.ground.specs.Lists.{front};
-ghost use Rattle.tables.specs.Rows.{refAt, HasRefs};
-ghost use Rattle.tables.specs.Rules.{mostNodes};
-ghost use Rattle.history.specs.History.{historyOf, Lent};
-ghost use Rattle.snapshot.specs.Walk.{rowWidth, flat};
-ghost use Rattle.snapshot.specs.Snapshot.{referentAt, Clean, CleanSnapshot, RuledSnapshot};
+ghost use Rattle.tables.specs.Rows.{refAt};
+ghost use Rattle.tables.specs.Tables.{lent};
+ghost use Rattle.tables.specs.Sizes.{mostNodes};
+ghost use Rattle.faults.specs.Slots.{Fresh};
+ghost use Rattle.snapshot.specs.Walk.{flat};
+ghost use Rattle.snapshot.specs.Readied.{Readied};
+ghost use Rattle.snapshot.specs.Snapshot.{referentAt};
 ghost use Rattle.snapshot.specs.Answers.{Snapshot};
-ghost use Rattle.snapshot.specs.Lists.{placesBy};
+ghost use Rattle.snapshot.specs.Lists.{placesBy, Showable};
 
-mod lists;
-mod walk;
+pub mod lists;
+pub mod walk;
 
 use answers::Answer;
 use faults::judge::judge_shown;
-use faults::slots::take_rows;
 use lists::count_rows;
 use lists::link;
 use lists::list_referents;
-use tables::judge::MOST_NODES;
 use tables::judge::judge_history;
 use tables::rows::NO_NODE;
-use tables::rows::edge_count;
-use tables::rows::node_count;
-use tables::rows::ref_count;
+use tables::sizes::MOST_NODES;
 use walk::ROW_WIDTH;
 use walk::walk;
 
 // The rows of the root and of the nodes to which a list gives a parent.
-fn show(parents: &[u32], n: usize, refs: &[u32], k: usize, t: u32, out: &mut [u32])
-    requires { ⌜ (0 < n) × (n ≤ mostNodes) × (n ≤ length (now parents)) ⌝ }
-    requires { ⌜ HasRefs (now refs) k
-        × ((i : ℕ) → i < k → (refAt (now refs) i .attribute < n) × (refAt (now refs) i .target < n)) ⌝ }
-    requires { ⌜ length (placesBy (now parents) n) * rowWidth ≤ length (now out) ⌝ }
+pub fn show(parents: &[u32], n: usize, refs: &[u32], k: usize, t: u32, out: &mut [u32])
+    requires { ⌜ Showable (now parents) n (now refs) k (now out) ⌝ }
     ensures { λ _. ⌜ now (out .exit) ≡ front (flat (referentAt k (refAt (now (refs .entry))) t)
         (placesBy (now (parents .entry)) n)) (now (out .entry)) ⌝ }
 {
@@ -46,79 +39,58 @@ fn show(parents: &[u32], n: usize, refs: &[u32], k: usize, t: u32, out: &mut [u3
     walk(&first, &next, &referents, n as u32, 0, NO_NODE, n, out);
 }
 
-// The rows of a history that has no fault but GAP at t.
-fn snapshot_rows(
-    n: usize,
-    edges: &[u32],
-    m: usize,
-    refs: &[u32],
-    k: usize,
-    t: u32,
-    out: &mut [u32],
-) -> Answer
-    requires { ⌜ Clean n (now edges) m (now refs) k t ⌝ }
-    ensures { λ r. ⌜ CleanSnapshot n (now (edges .entry)) m (now (refs .entry)) k t (now (out .entry)) r
-        (now (out .exit)) ⌝ }
-{
-    let mut parents = [NO_NODE; MOST_NODES];
-    take_rows(edges, m, t, &mut parents);
-    let rows = count_rows(&parents, n);
-    if out.len() < rows * ROW_WIDTH {
-        return Answer::Room(t, rows as u32);
-    }
-    show(&parents, n, refs, k, t, out);
-    Answer::Done(t, rows as u32)
-}
-
-// The snapshot of tables that obey their rules. A history without a cycle is never too deep: nothing asks for code 24.
-fn snapshot_ruled(
+// Whether what a history contains at t can be shown: every refusal of a snapshot but ROOM. Where nothing is refused, up
+// holds the parent of each node at t. A history without a cycle is never too deep: nothing asks for code 24.
+pub fn ready(
     start: u32,
+    nodes: &[u32],
     n: usize,
     edges: &[u32],
     m: usize,
     refs: &[u32],
     k: usize,
     t: u32,
-    out: &mut [u32],
+    up: &mut [u32],
 ) -> Answer
-    requires { ⌜ Lent start n (now edges) m (now refs) k ⌝ }
-    ensures { λ r. ⌜ RuledSnapshot (historyOf start n (now (edges .entry)) m (now (refs .entry)) k) t
-        (now (out .entry)) r (now (out .exit)) ⌝ }
+    requires { ⌜ Fresh mostNodes (now up) ⌝ }
+    ensures { λ r. ⌜ Readied (lent start (now (nodes .entry)) n (now (edges .entry)) m (now (refs .entry)) k) t r
+        (now (up .exit)) ⌝ }
 {
+    let rules = judge_history(start, nodes, n, edges, m, refs, k);
+    if rules.refuses() {
+        return rules;
+    }
     if t < start {
         return Answer::Early(t);
     }
-    let fault = judge_shown(start, n, edges, m, refs, k, t);
-    if fault.refuses() {
-        return fault;
-    }
-    snapshot_rows(n, edges, m, refs, k, t, out)
+    judge_shown(start, n, edges, m, refs, k, t, up)
 }
 
 // What a history contains at t, as rows at the front of out: the root, and the subtree of each of its children.
 pub fn snapshot(
     start: u32,
     nodes: &[u32],
+    n: usize,
     edges: &[u32],
+    m: usize,
     refs: &[u32],
+    k: usize,
     t: u32,
     out: &mut [u32],
 ) -> Answer
-    ensures { λ r. ⌜ Snapshot start (now (nodes .entry)) (now (edges .entry)) (now (refs .entry)) t
+    ensures { λ r. ⌜ Snapshot (lent start (now (nodes .entry)) n (now (edges .entry)) m (now (refs .entry)) k) t
         (now (out .entry)) r (now (out .exit)) ⌝ }
 {
-    let rules = judge_history(start, nodes, edges, refs);
-    if rules.refuses() {
-        return rules;
+    let mut up = [NO_NODE; MOST_NODES];
+    let readiness = ready(start, nodes, n, edges, m, refs, k, t, &mut up);
+    if readiness.refuses() {
+        return readiness;
     }
-    snapshot_ruled(
-        start,
-        node_count(nodes),
-        edges,
-        edge_count(edges),
-        refs,
-        ref_count(refs),
-        t,
-        out,
-    )
+    let rows = count_rows(&up, n);
+    let place = rows as u32;
+    if out.len() < rows * ROW_WIDTH {
+        return Answer::Room(t, place);
+    }
+    show(&up, n, refs, k, t, out);
+    Answer::Done(t, place)
 }

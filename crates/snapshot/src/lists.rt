@@ -1,19 +1,19 @@
 // The lists that the walk goes by: the referent, the first child and the next sibling of each node.
 ghost use mathlib.Core.Path.{_≡_};
-ghost use Prim.Native.Nat.{ℕ, _+_, _<_, _≤_};
+ghost use Prim.Native.Nat.{_+_, _<_, _≤_};
 ghost use lib.Dec.{ltb};
 ghost use lib.ListN.{length, getD};
 ghost use Rattle.ground.specs.Sums.{count};
-ghost use Rattle.tables.specs.Rows.{noNode, refAt, HasRefs};
+ghost use Rattle.tables.specs.Rows.{noNode, refAt};
 ghost use Rattle.snapshot.specs.Snapshot.{referentAt};
-ghost use Rattle.snapshot.specs.Lists.{Lists, Blank, putFirst, links, linkFrom};
+ghost use Rattle.snapshot.specs.Lists.{Lists, Listable, putFirst, links, linkFrom};
 use tables::rows::NO_NODE;
-use tables::rows::ref_attribute;
+use tables::rows::Side;
 use tables::rows::ref_in_force;
-use tables::rows::ref_target;
+use tables::rows::ref_side;
 
 // Stores v at a, unless a number of a node stands there.
-fn put_first(l: &mut [u32], a: usize, v: u32)
+pub fn put_first(l: &mut [u32], a: usize, v: u32)
     requires { ⌜ a < length (now l) ⌝ }
     ensures { λ _. ⌜ now (l .exit) ≡ putFirst (now (l .entry)) a v ⌝ }
 {
@@ -24,16 +24,14 @@ fn put_first(l: &mut [u32], a: usize, v: u32)
 
 // The referent of each node.
 pub fn list_referents(refs: &[u32], k: usize, t: u32, referents: &mut [u32])
-    requires { ⌜ HasRefs (now refs) k × Blank (now referents) ⌝ }
-    requires { ⌜ ((i : ℕ) → i < k → (refAt (now refs) i .attribute < length (now referents))
-        × (refAt (now refs) i .target < noNode)) ⌝ }
+    requires { ⌜ Listable (now refs) k (now referents) ⌝ }
     ensures { λ _. ⌜ Lists (referentAt k (refAt (now (refs .entry))) t) (now (referents .exit)) ⌝ }
 {
     let mut i: usize = 0;
     while i < k {
         if ref_in_force(refs, i, t) {
-            let a = ref_attribute(refs, i) as usize;
-            put_first(referents, a, ref_target(refs, i));
+            let a = ref_side(refs, i, Side::Attribute) as usize;
+            put_first(referents, a, ref_side(refs, i, Side::Target));
         }
         i += 1;
     }

@@ -1,15 +1,15 @@
 // The walk: a node's row, then the subtree of each of its children.
 ghost use mathlib.Core.Path.{_≡_};
-ghost use Prim.Native.Nat.{_*_, _<_, _≤_};
+ghost use Prim.Native.Nat.{_≤_};
 ghost use lib.ListN.{length};
 ghost use Rattle.ground.specs.Lists.{front};
 ghost use Rattle.snapshot.specs.Walk.{subtree, rowWidth, row};
-ghost use Rattle.snapshot.specs.Lists.{kidsOf, Runs, Walked};
+ghost use Rattle.snapshot.specs.Lists.{kidsOf, Walkable, Walked};
 
 pub const ROW_WIDTH: usize = 3;
 
 // A row at the front of out.
-fn put_row(out: &mut [u32], node: u32, parent: u32, referent: u32)
+pub fn put_row(out: &mut [u32], node: u32, parent: u32, referent: u32)
     requires { ⌜ rowWidth ≤ length (now out) ⌝ }
     ensures { λ _. ⌜ now (out .exit) ≡ front (row node parent referent) (now (out .entry)) ⌝ }
 {
@@ -30,9 +30,7 @@ pub fn walk(
     left: usize,
     out: &mut [u32],
 ) -> usize
-    requires { ⌜ Runs (now first) (now next) count × (node < count) × (count ≤ length (now referents)) ⌝ }
-    requires { ⌜ length (subtree (kidsOf (now first) (now next) count) left parent node) * rowWidth
-        ≤ length (now out) ⌝ }
+    requires { ⌜ Walkable (now first) (now next) (now referents) count node parent left (now out) ⌝ }
     ensures { λ r. ⌜ Walked (subtree (kidsOf (now (first .entry)) (now (next .entry)) count) left parent node)
         (now (referents .entry)) (now (out .entry)) r (now (out .exit)) ⌝ }
 {

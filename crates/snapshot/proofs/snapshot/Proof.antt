@@ -1,87 +1,99 @@
-use mathlib.Core.Path.{_≡_, _∙_, sym, ap}
-use mathlib.Core.Bool.{false}
-use Rattle.answers.specs.Numbers.{refuses}
-use Rattle.tables.specs.Says.{Obeys}
-use Rattle.tables.proofs.SaysLaws.{obeys-tells}
-use Rattle.history.proofs.RuledLaws.{obeys-lent}
-use Rattle.snapshot.proofs.AnswersLaws.{snapshot-of}
-use Rattle.snapshot.proofs.OutcomeLaws.{gives-rules, gives-ruled}
 use borrow.Author.Needs.{needs}
+use native.Mathlib.Omega.{arith}
+use mathlib.Core.Path.{_≡_, sym, _∙_}
+use mathlib.Core.Bool.{false}
+use Prim.Native.Nat.{_+_, _≤_}
+use Rattle.answers.specs.Numbers.{refuses}
+use Rattle.tables.specs.Sizes.{mostNodes}
+use Rattle.faults.proofs.SlotLaws.{fresh}
+use Rattle.snapshot.proofs.ReadyLaws.{ready-few}
+use Rattle.snapshot.proofs.AnswersLaws.{on-unready, on-short, rows-showable, on-rows}
 use Rattle.snapshot.proofs.snapshot.Statement.{statement}
 use Rattle.snapshot.proofs.snapshot.Tie as tie
 
--- the place past the rules, and that they are obeyed there
-abbrev judged : tie.Else1 → tie.After-judge-history
-judged c = c .before .before
+-- the places: readiness answered, nothing refused, the rows counted
+abbrev asked : tie.Else1 → tie.After-ready
+asked c = c .before .before .before
 
-abbrev entry : tie.Else1 → tie.Start
-entry c = judged c .before .before .before .before .before
+abbrev passed : tie.After-count-rows → tie.Else1
+passed c = c .before .before
 
-passed : (c : tie.Else1) → refuses (judged c .judge-history .result) ≡ false
-passed c = sym (c .before .refuses .ensures) ∙ c .if1 .left
+ready : (c : tie.Else1) → refuses (asked c .ready .result) ≡ false
+ready c = sym (c .before .refuses .ensures) ∙ c .if1 .left
 
-obeyed : (c : tie.Else1)
-    → Obeys (entry c .args .start) (entry c .args .nodes .now) (entry c .args .edges .now) (entry c .args .refs .now)
-obeyed c =
-    let a = entry c .args in
-    obeys-tells (a .start) (a .nodes .now) (a .edges .now) (a .refs .now) .0
-    (ap refuses (sym (judged c .judge-history .ensures)) ∙ passed c)
+slice-aggregate-ready : tie.Need-slice-aggregate-ready
+slice-aggregate-ready c = search needs
 
-judge-history-requires : tie.Need-judge-history-requires
-judge-history-requires c κs = search needs
+ready-requires : tie.Need-ready-requires
+ready-requires c κs = fresh (omega arith)
 
 refuses-requires : tie.Need-refuses-requires
 refuses-requires c κs = search needs
 
 returns : tie.Need-returns
 returns c =
-    let j = c .before .before in
-    let a = j .before .before .before .before .before .args in
-    snapshot-of (a .start) (a .nodes .now) (a .edges .now) (a .refs .now) (a .t) (a .out .now)
-    (gives-rules (a .start) (a .nodes .now) (a .edges .now) (a .refs .now) (a .t) _ (a .out .now) _
-    (j .judge-history .ensures) (sym (c .before .refuses .ensures) ∙ c .if1 .taken))
+    let a = c .before .before .before in
+    on-unready _ _ _ (a .ready .ensures .answer) (sym (c .before .refuses .ensures) ∙ c .if1 .taken)
 
-node-count-requires : tie.Need-node-count-requires
-node-count-requires c κs = search needs
+slice-aggregate-count-rows : tie.Need-slice-aggregate-count-rows
+slice-aggregate-count-rows c = search needs
 
-edge-count-requires : tie.Need-edge-count-requires
-edge-count-requires c κs = search needs
+count-rows-requires : tie.Need-count-rows-requires
+count-rows-requires c κs = let d = c .before in asked d .ready .ensures .seen (ready d) .long
 
-ref-count-requires : tie.Need-ref-count-requires
-ref-count-requires c κs = search needs
+few : (c : tie.After-count-rows) → c .count-rows .result ≤ mostNodes + 1
+few c =
+    let d = passed c in
+    ready-few _ _ (asked d .ready .ensures) (ready d) (c .count-rows .ensures)
 
-snapshot-ruled-requires : tie.Need-snapshot-ruled-requires
-snapshot-ruled-requires c κs =
-    let k = c .before in
-    let d = k .before .before .before in
-    let a = entry d .args in
-    rw (k .before .before .node-count .ensures, k .before .edge-count .ensures, k .ref-count .ensures)
-    (obeys-lent (a .start) (a .nodes .now) (a .edges .now) (a .refs .now) (obeyed d))
+cast-place : tie.Need-cast-place
+cast-place c = omega (arith, few c)
+
+mul-if2 : tie.Need-mul-if2
+mul-if2 c = omega (arith, few c)
+
+returns-2 : tie.Need-returns-2
+returns-2 c =
+    let counted = c .before in
+    let d = passed counted in
+    on-short _ _ _ (asked d .ready .ensures) (ready d) (counted .count-rows .ensures) (c .if2 .taken)
+
+slice-aggregate-show : tie.Need-slice-aggregate-show
+slice-aggregate-show c = search needs
+
+show-requires : tie.Need-show-requires
+show-requires c κs =
+    let fits = c .before .before in
+    let counted = fits .before in
+    let d = passed counted in
+    rows-showable _ _ _ (asked d .ready .ensures) (ready d) (counted .count-rows .ensures) (fits .if2 .left)
 
 same-length : tie.Need-same-length
 same-length c = search needs
 
-returns-2 : tie.Need-returns-2
-returns-2 c =
-    let told = c .before .before .snapshot-ruled .ensures in
-    let k = c .before .before .before .before in
-    let d = k .before .before .before in
-    let a = entry d .args in
-    snapshot-of (a .start) (a .nodes .now) (a .edges .now) (a .refs .now) (a .t) (a .out .now)
-    (gives-ruled (a .start) (a .nodes .now) (a .edges .now) (a .refs .now) (a .t) _ (a .out .now) _
-    (judged d .judge-history .ensures) _ _ (passed d)
-    (rw (k .before .before .node-count .ensures, k .before .edge-count .ensures, k .ref-count .ensures) at told))
+returns-3 : tie.Need-returns-3
+returns-3 c =
+    let shown = c .before .before in
+    let fits = shown .before .before .before in
+    let counted = fits .before in
+    let d = passed counted in
+    on-rows _ _ _ (asked d .ready .ensures) (ready d) (counted .count-rows .ensures) (fits .if2 .left)
+    (shown .show .ensures)
 
 pub snapshot-spec : {M : Type 1} → statement M
 snapshot-spec =
     tie.close
     (tie.spec
-    judge-history-requires
+    slice-aggregate-ready
+    ready-requires
     refuses-requires
     returns
-    node-count-requires
-    edge-count-requires
-    ref-count-requires
-    snapshot-ruled-requires
+    slice-aggregate-count-rows
+    count-rows-requires
+    cast-place
+    mul-if2
+    returns-2
+    slice-aggregate-show
+    show-requires
     same-length
-    returns-2)
+    returns-3)

@@ -2,23 +2,28 @@
 use borrow.Author.Needs.{needs}
 use native.Mathlib.Omega.{arith}
 use mathlib.Core.Path.{_≡_, refl, sym, ap, _∙_}
-use Prim.Native.Nat.{_≤_, _-_}
+use mathlib.Core.List.{List}
+use Prim.Native.Nat.{ℕ, _≤_, _-_}
 use lib.ListN.{length, length-set}
 use Rattle.snapshot.specs.Lists.{links, linkFrom}
 use Rattle.snapshot.proofs.LinkLaws.{link-yes, link-no}
 use Rattle.snapshot.proofs.lists.link.Statement.{statement}
 use Rattle.snapshot.proofs.lists.link.Tie as tie
 
+record Turn (parents : List ℕ) (n : ℕ) (first₀ next₀ first next : List ℕ) (c : ℕ) : Type 0 where
+  within : c ≤ n
+  firsts : length first ≡ length first₀
+  nexts : length next ≡ length next₀
+  same : linkFrom parents n c (links first next) ≡ linkFrom parents n n (links first₀ next₀)
+
 abbrev Inv-loop : tie.InvT-loop
-Inv-loop parents n first₀ next₀ c₀ first next c =
-    (c ≤ n) × (length first ≡ length first₀) × (length next ≡ length next₀)
-    × (linkFrom parents n c (links first next) ≡ linkFrom parents n n (links first₀ next₀))
+Inv-loop parents n first₀ next₀ c₀ first next c = Turn parents n first₀ next₀ first next c
 
 abbrev μ-loop : tie.MeasureT-loop
 μ-loop parents n first₀ next₀ c₀ first next c = c
 
 loop-holds : tie.Need-loop-holds Inv-loop μ-loop
-loop-holds c = (omega arith, refl, refl, refl)
+loop-holds c = record { within = omega arith; firsts = refl; nexts = refl; same = refl }
 
 sub-c : tie.Need-sub-c Inv-loop μ-loop
 sub-c c = search needs
@@ -60,12 +65,13 @@ loop-again : tie.Need-loop-again Inv-loop μ-loop
 loop-again c =
     let l = c .before .before .before .before in
     let before = links (l .loop .first) (l .loop .next) in
-    let linked = link-yes _ _ (l .loop .c) _ before (omega arith) refl (c .before .if1 .taken) in (
-      omega arith,
-      simp length-set (l .loop .inv .1),
-      simp length-set (l .loop .inv .2),
-      sym linked ∙ l .loop .inv .3,
-    )
+    let linked = link-yes _ _ (l .loop .c) _ before (omega arith) refl (c .before .if1 .taken) in
+    record {
+      within = omega arith;
+      firsts = simp length-set (l .loop .inv .firsts);
+      nexts = simp length-set (l .loop .inv .nexts);
+      same = sym linked ∙ l .loop .inv .same;
+    }
 
 loop-less-2 : tie.Need-loop-less-2 Inv-loop μ-loop
 loop-less-2 c = search needs
@@ -74,13 +80,18 @@ loop-again-2 : tie.Need-loop-again-2 Inv-loop μ-loop
 loop-again-2 c =
     let l = c .before .before .before in
     let skipped = link-no _ _ (l .loop .c) (links (l .loop .first) (l .loop .next)) (omega arith) (c .if1 .left) in
-    (omega arith, l .loop .inv .1, l .loop .inv .2, sym skipped ∙ l .loop .inv .3)
+    record {
+      within = omega arith;
+      firsts = l .loop .inv .firsts;
+      nexts = l .loop .inv .nexts;
+      same = sym skipped ∙ l .loop .inv .same;
+    }
 
 same-length : tie.Need-same-length Inv-loop μ-loop
-same-length c = c .before .loop .inv .1
+same-length c = c .before .loop .inv .firsts
 
 same-length-2 : tie.Need-same-length-2 Inv-loop μ-loop
-same-length-2 c = c .before .loop .inv .2
+same-length-2 c = c .before .loop .inv .nexts
 
 returns : tie.Need-returns Inv-loop μ-loop
 unfolding linkFrom
@@ -88,7 +99,7 @@ returns c =
     let a = c .before .before .args in
     let e : c .before .loop .c ≡ 0 = omega arith in
     let l = c .before .loop in
-    ap (λ x. linkFrom (a .parents .now) (a .n) x (links (l .first) (l .next))) (sym e) ∙ l .inv .3
+    ap (λ x. linkFrom (a .parents .now) (a .n) x (links (l .first) (l .next))) (sym e) ∙ l .inv .same
 
 pub link-spec : {M : Type 1} → statement M
 link-spec =

@@ -50,9 +50,15 @@ abbrev calls : ℕ → walk-lts.Claims
 calls t = (put-row-reads.Asked, put-row-reads.Learnt, walk-below t, walk.Post)
 
 module _ (t : ℕ) where
-  -- the places: the entry, the loop, and the turn that takes the child c
+  -- the places: the entry, the slices known, the row put, the loop, the turn that takes the child c, its walk
   abbrev Start : Type 0
   Start = walk-lts.Start (calls t) (walk-at t) walk.Post walk-Inv-loop walk-μ-loop
+
+  abbrev Known : Type 0
+  Known = walk-lts.After-slice-known (calls t) (walk-at t) walk.Post walk-Inv-loop walk-μ-loop
+
+  abbrev Put : Type 0
+  Put = walk-lts.After-put-row (calls t) (walk-at t) walk.Post walk-Inv-loop walk-μ-loop
 
   abbrev Loop : Type 0
   Loop = walk-lts.At-loop (calls t) (walk-at t) walk.Post walk-Inv-loop walk-μ-loop
@@ -60,8 +66,23 @@ module _ (t : ℕ) where
   abbrev Turn : Type 0
   Turn = walk-lts.In-loop (calls t) (walk-at t) walk.Post walk-Inv-loop walk-μ-loop
 
+  abbrev Called : Type 0
+  Called = walk-lts.After-walk (calls t) (walk-at t) walk.Post walk-Inv-loop walk-μ-loop
+
+  abbrev entry : Known → Start
+  entry c = c .before .before .before .before
+
+  abbrev known : Put → Known
+  known c = c .before .before .before .before
+
+  abbrev put : Loop → Put
+  put l = l .before .before .before .before
+
+  abbrev turned : Called → Turn
+  turned c = c .before .before
+
   abbrev start : Loop → Start
-  start l = l .before .before .before .before .before .before .before .before .before .before .before .before
+  start l = entry (known (put l))
 
   -- the children and the referents that the lists hold
   abbrev kids : Start → ℕ → List ℕ
@@ -75,18 +96,14 @@ module _ (t : ℕ) where
 
   long : (l : Loop)
       → (l .loop .rows * rowWidth ≤ length (l .loop .out)) × (length (l .loop .out) ≡ length (start l .args .out .now))
-  long l =
-      let s = start l in
-      let a = s .args in
-      let h = part-long (kids s) (a .left) (a .parent) (a .node) (referent s) _ _ _ _ (l .loop .inv) in
-      omega (arith, h, l .before .before .before .before .put-row .kept .0)
+  long l = omega (arith, part-long (l .loop .inv), put l .put-row .kept .0)
 
   -- the walk stands so at the loop, with the children `rest` to come
   abbrev Parted : Loop → List ℕ → Type 0
   Parted l rest =
       let s = start l in
       Part (kids s) (s .args .left) (s .args .parent) (s .args .node) (referent s)
-      (l .before .before .before .before .put-row .last .0)
+      (put l .put-row .last .0)
       (l .loop .out) (l .loop .rows) rest
 
   -- the places under the child c, and the children after it
@@ -101,17 +118,15 @@ module _ (t : ℕ) where
   -- c is the next of the children still to come
   turn : (c : Turn) → Parted (c .before) (c .before .loop .c ∷ later c)
   turn c =
-      rw (start (c .before) .pre .1 .0 .0 .goes (c .before .loop .c) (c .loop-test .taken)) at (c .before .loop .inv)
+      rw (start (c .before) .pre .1 .runs .goes (c .before .loop .c) (c .loop-test .taken)) at (c .before .loop .inv)
 
   -- there is room for its rows
   room : (c : Turn) → (c .before .loop .rows + length (child c)) * rowWidth ≤ length (c .before .loop .out)
-  room c =
-      let s = start (c .before) in
-      part-room (kids s) (s .args .left) (s .args .parent) (s .args .node) (referent s) _ _ _ _ _ (turn c)
+  room c = part-room (turn c)
 
   walk-returns : walk-lts.Need-returns (calls t) (walk-at t) walk.Post walk-Inv-loop walk-μ-loop
   walk-returns c =
-      let s = c .before .before .before .before .before in
+      let s = entry (c .before) in
       let (k, o) =
       part-none (kids s) (s .args .left) (s .args .parent) (s .args .node) (referent s) (s .args .out .now)
       (c .if1 .taken) in
@@ -119,54 +134,43 @@ module _ (t : ℕ) where
 
   walk-put-row-requires : walk-lts.Need-put-row-requires (calls t) (walk-at t) walk.Post walk-Inv-loop walk-μ-loop
   walk-put-row-requires c κs =
-      let s = c .before .before .before .before .before .before .before in
+      let s = entry (c .before .before .before) in
       let here = peel (kids s) (s .args .left) (s .args .parent) (s .args .node) (omega arith) in
-      omega (arith, s .pre .1, ap length here)
+      omega (arith, s .pre .1 .room, ap length here)
 
   walk-loop-holds : walk-lts.Need-loop-holds (calls t) (walk-at t) walk.Post walk-Inv-loop walk-μ-loop
   walk-loop-holds c =
-      let s = c .before .before .before .before .before .before .before .before .before .before .before in
-      part-start (kids s) (s .args .left) (s .args .parent) (s .args .node) (referent s) _ _ (omega arith) (omega arith)
-      (c .before .before .before .put-row .ensures)
-
-  walk-mul-at : walk-lts.Need-mul-at (calls t) (walk-at t) walk.Post walk-Inv-loop walk-μ-loop
-  walk-mul-at c = omega (arith, long (c .before))
-
-  walk-mul-walk : walk-lts.Need-mul-walk (calls t) (walk-at t) walk.Post walk-Inv-loop walk-μ-loop
-  walk-mul-walk c = omega (arith, long (c .before))
-
-  walk-sub-walk-2 : walk-lts.Need-sub-walk-2 (calls t) (walk-at t) walk.Post walk-Inv-loop walk-μ-loop
-  walk-sub-walk-2 c = omega (arith, long (c .before))
-
-  walk-part-walk-start : walk-lts.Need-part-walk-start (calls t) (walk-at t) walk.Post walk-Inv-loop walk-μ-loop
-  walk-part-walk-start c = omega (arith, long (c .before))
+      part-start _ (omega arith) (omega arith) (c .before .before .before .put-row .ensures)
 
   walk-walk-requires : walk-lts.Need-walk-requires (calls t) (walk-at t) walk.Post walk-Inv-loop walk-μ-loop
   walk-walk-requires c κs =
       let s = start (c .before .before) in (
         omega (arith, s .pre .0, c .before .before .loop .inv .some),
-        ((s .pre .1 .0 .0, omega arith, s .pre .1 .0 .2), rw (part-all, length-drop) (omega (arith, room (c .before)))),
+        record {
+          runs = s .pre .1 .runs;
+          node-below = omega arith;
+          listed = s .pre .1 .listed;
+          room = rw (part-all, length-drop) (omega (arith, room (c .before)));
+        },
       )
 
   walk-add-rows : walk-lts.Need-add-rows (calls t) (walk-at t) walk.Post walk-Inv-loop walk-μ-loop
   walk-add-rows c =
-      let l = c .before .before .before .before .before in
-      let fits = room (c .before .before .before .before) in
-      omega (arith, c .before .before .walk .ensures .rows, long l, start l .good)
+      let w = c .before .before in
+      let l = turned w .before in
+      let fits = room (turned w) in
+      omega (arith, w .walk .ensures .rows, long l, start l .good)
 
   walk-loop-less : walk-lts.Need-loop-less (calls t) (walk-at t) walk.Post walk-Inv-loop walk-μ-loop
   walk-loop-less c =
-      let l = c .before .before .before .before .before .before in
-      let test = c .before .before .before .before .before .loop-test .taken in
-      omega (arith, ap length (start l .pre .1 .0 .0 .goes (l .loop .c) test))
+      let turn = turned (c .before .before .before) in
+      let l = turn .before in
+      omega (arith, ap length (start l .pre .1 .runs .goes (l .loop .c) (turn .loop-test .taken)))
 
   walk-loop-again : walk-lts.Need-loop-again (calls t) (walk-at t) walk.Post walk-Inv-loop walk-μ-loop
   walk-loop-again c =
-      let s = start (c .before .before .before .before .before .before) in
-      let d = c .before .before .before .walk in
-      part-fill (kids s) (s .args .left) (s .args .parent) (s .args .node) (referent s) _ _ _ _ _
-      (turn (c .before .before .before .before .before)) _ _
-      (d .ensures .rows) (d .ensures .out)
+      let w = c .before .before .before in
+      part-fill (turn (turned w)) _ _ (w .walk .ensures .rows) (w .walk .ensures .out)
 
   walk-same-length : walk-lts.Need-same-length (calls t) (walk-at t) walk.Post walk-Inv-loop walk-μ-loop
   walk-same-length c = long (c .before) .1
@@ -176,9 +180,7 @@ module _ (t : ℕ) where
       let l = c .before in
       let s = start l in
       let e = follow-stop (s .args .next .now) (s .args .count) (s .args .count) (l .loop .c) (c .loop-test .left) in
-      let (k, o) =
-      part-end (kids s) (s .args .left) (s .args .parent) (s .args .node) (referent s) _ _ _ (s .args .out .now)
-      (rw e at (l .loop .inv)) (l .before .before .before .before .put-row .ensures) in
+      let (k, o) = part-end (s .args .out .now) (rw e at (l .loop .inv)) (put l .put-row .ensures) in
       record { rows = k; out = o }
 
 pub +walk-spec : {M : Type 1} → statement M
@@ -194,11 +196,11 @@ pub +walk-spec : {M : Type 1} → statement M
     (λ c. search needs)
     (λ c. search needs)
     (walk-loop-holds t)
-    (walk-mul-at t)
+    (λ c. omega (arith, long t (c .before)))
     (λ c. search needs)
-    (walk-mul-walk t)
-    (walk-sub-walk-2 t)
-    (walk-part-walk-start t)
+    (λ c. omega (arith, long t (c .before)))
+    (λ c. omega (arith, long t (c .before)))
+    (λ c. omega (arith, long t (c .before)))
     (λ c. search needs)
     (walk-walk-requires t)
     (walk-add-rows t)

@@ -1,0 +1,166 @@
+-- Readiness has one answer, the one that is computed, and refuses exactly what is not ready. Assumes nothing.
+use mathlib.Core.Path.{_≡_, refl, sym, ap, subst, _∙_}
+use mathlib.Core.Logic.{_↔_}
+use mathlib.Core.Bool.{true, false, false≢true}
+use mathlib.Core.List.{List}
+use Prim.Native.Nat.{ℕ, _+_, _≤_, _<_}
+use native.Mathlib.Omega.{arith}
+use lib.Dec.{ltb}
+use lib.ListN.{length, getD}
+use borrow.Author.Tests.{lt-ltb, le-ltb, ltb-true, ltb-false}
+use Rattle.ground.specs.Sums.{count}
+use Rattle.ground.proofs.TestLaws.{by-test}
+use Rattle.ground.proofs.SumLaws.{count-le}
+use Rattle.answers.specs.declared.Answer.{Answer}
+use Rattle.answers.specs.declared.Answer.the-variants.{Early, Deep}
+use Rattle.answers.specs.Numbers.{refuses}
+use Rattle.answers.specs.Refusals.{passed, when}
+use Rattle.answers.proofs.AnswerLaws.{faulty-refuses}
+use Rattle.tables.specs.Rows.{HasRefs}
+use Rattle.tables.specs.Tables.{Tables}
+use Rattle.tables.specs.Sizes.{mostNodes}
+use Rattle.tables.specs.Says.{historySays, Obeys}
+use Rattle.tables.specs.Gives.{Gives}
+use Rattle.tables.proofs.GivesLaws.{gives-is, gives-says, obeys-tells}
+use Rattle.history.specs.History.{History, Ruled, held}
+use Rattle.history.specs.Verdict.{Shown, Names, none, first}
+use Rattle.history.specs.Computed.{shownSay}
+use Rattle.history.proofs.SayLaws.{shown-named}
+use Rattle.history.proofs.RuledLaws.{obeys-ruled, obeys-lent}
+use Rattle.history.proofs.VerdictLaws.{names-unique}
+use Rattle.faults.specs.Judged.{Shows}
+use Rattle.snapshot.specs.Depth.{TooDeep, tooDeep}
+use Rattle.snapshot.specs.Ready.{Ready, Unready, Readiness, ruled-out, early, faulty, deep}
+use Rattle.snapshot.specs.Readied.{Readied}
+use Rattle.snapshot.specs.Ready.{refused, is-ready, instantSays, readySays}
+use Rattle.snapshot.specs.Snapshot.{placesOf}
+use Rattle.snapshot.specs.Lists.{placesBy}
+use Rattle.snapshot.proofs.DepthLaws.{shallow, not-deep}
+use Rattle.snapshot.proofs.RowLaws.{none-tree, counted, walked}
+
+-- what is computed at an instant: before the start, and where a fault is named or none
+module _ (H : History) (t : ℕ) where
+  early-says : t < H .start → instantSays H t ≡ Early t
+  unfolding instantSays
+  early-says h = rw (lt-ltb t (H .start) h)
+
+  module _ (begun : H .start ≤ t) where
+    fault-says : refuses (shownSay H t) ≡ true → instantSays H t ≡ shownSay H t
+    unfolding instantSays
+    fault-says f = rw (le-ltb t (H .start) begun, f)
+
+    depth-says : refuses (shownSay H t) ≡ false → instantSays H t ≡ when (tooDeep H t) (Deep t)
+    unfolding instantSays
+    depth-says n = rw (le-ltb t (H .start) begun, n)
+
+module _ (L : Tables) (t : ℕ) where
+  abbrev H : History
+  H = held L
+
+  abbrev Is : Answer → Type 0
+  Is = Readiness L t
+
+  abbrev Known : Type 0
+  Known = Ready L t
+
+  pub ready-ruled : Known → Ruled H
+  ready-ruled r = obeys-ruled L (r .obeys)
+
+  -- [02:Ask 8] "no chain can pass 1,023 rows"
+  pub never-deep : Known → TooDeep H t → ⊥
+  never-deep r = shallow H t (ready-ruled r) (none-tree H t (r .none))
+
+  says-refused : refuses (historySays L) ≡ true → readySays L t ≡ historySays L
+  unfolding readySays
+  says-refused e = rw e
+
+  says-obeyed : Obeys L → readySays L t ≡ instantSays H t
+  unfolding readySays
+  says-obeyed o = rw (obeys-tells L .1 o)
+
+  says-ready : (r : Known) → readySays L t ≡ passed
+  says-ready r =
+      let ruled = ready-ruled r in
+      let named = ap refuses (names-unique (Shown H t) t (shown-named H t ruled) (none (r .none))) in
+      says-obeyed (r .obeys) ∙ depth-says H t (r .begun) named ∙ rw (not-deep H t ruled (none-tree H t (r .none)))
+
+  pub readiness-is : {a : Answer} → Is a → a ≡ readySays L t
+  readiness-is (refused (ruled-out g e)) =
+      let q = gives-is L g in
+      q ∙ sym (says-refused (ap refuses (sym q) ∙ e))
+  readiness-is (refused (early o h)) = sym (says-obeyed o ∙ early-says H t h)
+  readiness-is (refused (faulty {f = f} o b x)) =
+      let q = names-unique (Shown H t) t (first x) (shown-named H t (obeys-ruled L o)) in
+      q ∙ sym (says-obeyed o ∙ fault-says H t b (ap refuses (sym q) ∙ faulty-refuses t f))
+  readiness-is (refused (deep r d)) = absurd (never-deep r d)
+  readiness-is (is-ready r d) = sym (says-ready r)
+
+  pub readiness-unique : {a b : Answer} → Is a → Is b → a ≡ b
+  readiness-unique x y = readiness-is x ∙ sym (readiness-is y)
+
+  -- the answers: where a rule is broken, before the start, and what the judge names
+  pub rules-readiness : {a : Answer} → a ≡ historySays L → refuses a ≡ true → Is a
+  rules-readiness q e = refused (ruled-out (subst (Gives L) (sym q) (gives-says L)) e)
+
+  pub shown-readiness : Obeys L → L .start ≤ t → {a : Answer} → Names (Shown H t) t a → Is a
+  shown-readiness o b (none n) =
+      let r : Known = record { obeys = o; begun = b; none = n } in
+      is-ready r (never-deep r)
+  shown-readiness o b (first x) = refused (faulty o b x)
+
+  pub readiness-exists : (a : Answer) × Is a
+  readiness-exists =
+      by-test (refuses (historySays L))
+      (λ e. (historySays L, rules-readiness refl e))
+      (λ e.
+      let o = obeys-tells L .0 e in
+      by-test (ltb t (L .start))
+      (λ f. (Early t, refused (early o (ltb-true t (L .start) f))))
+      (λ f.
+      let named = shown-named H t (obeys-ruled L o) in
+      (shownSay H t, shown-readiness o (ltb-false t (L .start) f) named)))
+
+  pub unready-refuses : {a : Answer} → Unready L t a → refuses a ≡ true
+  unready-refuses (ruled-out g e) = e
+  unready-refuses (early o h) = refl
+  unready-refuses (faulty {f = f} o b x) = faulty-refuses t f
+  unready-refuses (deep r d) = refl
+
+  readiness-ready : {a : Answer} → Is a → refuses a ≡ false → Known
+  readiness-ready (refused u) e = absurd (false≢true (sym e ∙ unready-refuses u))
+  readiness-ready (is-ready r d) e = r
+
+  pub ready-tells : {a : Answer} → Is a → (refuses a ≡ false) ↔ Known
+  ready-tells x = (readiness-ready x, λ r. ap refuses (readiness-unique x (is-ready r (never-deep r))))
+
+  pub readiness-unready : {a : Answer} → Is a → refuses a ≡ true → Unready L t a
+  readiness-unready (refused u) e = u
+  readiness-unready (is-ready r d) e = absurd (false≢true e)
+
+  -- a refusal says nothing of the slots
+  pub readied-refused : {r : Answer} {up : List ℕ} → Is r → refuses r ≡ true → Readied L t r up
+  readied-refused x e = record { answer = x; seen = λ f. absurd (false≢true (sym f ∙ e)) }
+
+  pub readied-shown : Obeys L → L .start ≤ t → {r : Answer} {up : List ℕ} → H .nodes ≤ length up → Shows H t up r
+      → Readied L t r up
+  readied-shown o b h x =
+      let ruled = obeys-ruled L o in
+      let named = subst (Names (Shown H t) t) (sym (x .answer)) (shown-named H t ruled) in
+      record {
+        answer = shown-readiness o b named;
+        seen = λ f. record { ruled = ruled; long = h; slots = x .slots };
+      }
+
+  -- where nothing is refused, the slots count the rows and show the places
+  module _ {r : Answer} {up : List ℕ} (x : Readied L t r up) (f : refuses r ≡ false) where
+    known : Known
+    known = readiness-ready (x .answer) f
+
+    pub ready-counted : 1 + count (λ c. ltb (getD up c 0) (H .nodes)) (H .nodes) ≡ length (placesOf H t)
+    ready-counted = counted H t (known .begun) (known .none) (x .seen f)
+
+    pub ready-places : placesBy up (H .nodes) ≡ placesOf H t
+    ready-places = walked H t (known .begun) (known .none) (x .seen f)
+
+    pub ready-few : {k : ℕ} → k ≡ 1 + count (λ c. ltb (getD up c 0) (H .nodes)) (H .nodes) → k ≤ mostNodes + 1
+    ready-few e = omega (arith, count-le (λ c. ltb (getD up c 0) (H .nodes)) (H .nodes), x .seen f .ruled .few-nodes)
