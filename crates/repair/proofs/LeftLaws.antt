@@ -11,7 +11,7 @@ use Rattle.history.specs.Faults.{Overlap, Gap}
 use Rattle.repair.specs.Ends.{Largest, NewEnd, tied, newEnd, repaired}
 use Rattle.repair.specs.Stays.{OnlyEnds, Stay, OneLatest}
 use Rattle.repair.proofs.TieLaws.{untied}
-use Rattle.repair.proofs.StoreLaws.{ends-length, ends-frame, ends-same, ends-twice}
+use Rattle.repair.proofs.StoreLaws.{ends-length, ends-rest, ends-frame, ends-same, ends-twice}
 use Rattle.repair.proofs.BoundLaws.{same-from, row-after, tied-same}
 use Rattle.repair.proofs.StepLaws.{repaired-row}
 use Rattle.repair.proofs.NewEndLaws.{last-sound, from-le-new, new-end-sound, largest-unique}
@@ -37,6 +37,11 @@ module _ (es : List ℕ) (m : ℕ) (has : HasEdges es m) where
 
   pub left-new : (i : ℕ) → i < m → NewEnd before m i (after i .to)
   left-new i h = rw (left-ends .ends i h) (new-end-sound before m i h)
+
+  -- the rows past them stay
+  pub left-rest : (i : ℕ) → m ≤ i → after i .to ≡ before i .to
+  unfolding repaired
+  left-rest i h = ap (λ (x : Edge). x .to) (ends-rest es (newEnd before m) m i h)
 
   -- where no row ends before it starts, none does afterwards, the last ends stay, and a second repair changes nothing
   module _ (right : (i : ℕ) → i < m → before i .from ≤ before i .to) where

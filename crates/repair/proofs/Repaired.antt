@@ -1,5 +1,5 @@
 -- The theorems on repair, each of a call that answered r and left the containment table `left`: what the contract
--- promises is all that they ask for. `rows` is how many rows the table has.
+-- promises is all that they ask for. `rows` is the count of its rows.
 --   answers-unique    two answers whose conditions hold are the same
 --   repaired-unique   two outcomes that the contract allows are the same
 --   only-ends         parents, children, starts and the order of rows stay, whatever the answer
@@ -19,22 +19,24 @@ use mathlib.Core.Path.{_≡_, refl, sym, ap, subst, _∙_}
 use mathlib.Core.Logic.{_↔_}
 use mathlib.Core.Bool.{true, false}
 use mathlib.Core.List.{List}
-use Prim.Native.Nat.{ℕ, _≤_, _<_, _/_}
-use native.Mathlib.Omega.{arith}
+use Prim.Native.Nat.{ℕ, _≤_, _<_}
 use lib.ListN.{length}
 use Rattle.ground.specs.Least.{Before}
 use Rattle.ground.proofs.TestLaws.{by-test}
 use Rattle.answers.specs.declared.Answer.{Answer}
 use Rattle.answers.specs.declared.Answer.the-variants.{Done, Tie}
 use Rattle.answers.specs.Numbers.{refuses}
-use Rattle.tables.specs.Rows.{edgeWidth, nodeAt, edgeAt, nodeCount, edgeCount, HasEdges}
+use Rattle.tables.specs.Rows.{edgeAt, HasEdges}
+use Rattle.tables.specs.Tables.{Tables, table, nodeIn}
+use Rattle.tables.specs.Sizes.{EdgesSize}
 use Rattle.tables.specs.Rules.{EdgeRule}
-use Rattle.tables.specs.Says.{ObeysContainment}
+use Rattle.tables.specs.Says.{Obeys}
 use Rattle.tables.specs.Gives.{Smallest}
 use Rattle.history.specs.Faults.{Overlap, Gap}
+use Rattle.history.proofs.RuledLaws.{obeys-lent}
 use Rattle.repair.specs.Ends.{Tied, Largest, NewEnd, tied, repaired, changed}
 use Rattle.repair.specs.Stays.{OnlyEnds, Stay, OneLatest}
-use Rattle.repair.specs.Answers.{Mended, Answers, Repaired, tie, done}
+use Rattle.repair.specs.Answers.{Mended, Answers, Repaired, tie, done, withEdges}
 use Rattle.repair.proofs.TieLaws.{untied-tells}
 use Rattle.repair.proofs.SaysLaws.{changed-none}
 use Rattle.repair.proofs.LeftLaws.{
@@ -47,26 +49,28 @@ use Rattle.repair.proofs.LeftLaws.{
   left-no-gap,
 }
 use Rattle.repair.proofs.AnswersLaws.{
-  mended-repaired,
+  obeys-mended,
   answers-is,
   done-given,
   repaired-left,
   outcome-of,
 }
 
-pub answers-unique : {start : ℕ} {ns es : List ℕ} {a b : Answer} → Answers start ns es a → Answers start ns es b → a ≡ b
-answers-unique {start} {ns} {es} x y = answers-is start ns es x ∙ sym (answers-is start ns es y)
+pub answers-unique : {L : Tables} {a b : Answer} → Answers L a → Answers L b → a ≡ b
+answers-unique {L} x y = answers-is L x ∙ sym (answers-is L y)
 
-pub repaired-unique : {start : ℕ} {ns es : List ℕ} {r q : Answer} {a b : List ℕ}
-    → Repaired start ns es r a → Repaired start ns es q b → (r ≡ q) × (a ≡ b)
+pub repaired-unique : {L : Tables} {r q : Answer} {a b : List ℕ} → Repaired L r a → Repaired L q b → (r ≡ q) × (a ≡ b)
 repaired-unique x y =
     let s = outcome-of x in
     let t = outcome-of y in
     (s .answer ∙ sym (t .answer), s .table ∙ sym (t .table))
 
-module _ {start : ℕ} {ns es : List ℕ} {r : Answer} {left : List ℕ} (x : Repaired start ns es r left) where
+module _ {L : Tables} {r : Answer} {left : List ℕ} (x : Repaired L r left) where
   abbrev rows : ℕ
-  rows = edgeCount es
+  rows = L .edges .count
+
+  abbrev es : List ℕ
+  es = L .edges .numbers
 
   pub refused-frame : refuses r ≡ true → left ≡ es
   refused-frame = x .kept
@@ -77,31 +81,28 @@ module _ {start : ℕ} {ns es : List ℕ} {r : Answer} {left : List ℕ} (x : Re
       (λ t. rw (x .kept t) (refl, λ i. refl))
       (λ f. (x .mended f .size, x .mended f .frame))
 
-  pub answer-exact : {a : Answer} → Answers start ns es a → r ≡ a
+  pub answer-exact : {a : Answer} → Answers L a → r ≡ a
   answer-exact y = answers-unique (x .answer) y
 
-  pub tie-named : ObeysContainment start ns es → {i : ℕ} → Smallest (Tied (edgeAt es)) rows i → r ≡ Tie (edgeAt es i .from) i
+  pub tie-named : Obeys L → {i : ℕ} → Smallest (Tied (edgeAt es)) rows i → r ≡ Tie (edgeAt es i .from) i
   tie-named o l = answer-exact (tie o l)
 
-  pub done-tells : (refuses r ≡ false) ↔ (ObeysContainment start ns es × Before (Tied (edgeAt es)) rows)
-  done-tells = (
-    done-given (x .answer),
-    λ (o, none). ap refuses (answer-exact (done o none (mended-repaired es))),
-  )
+  pub done-tells : (refuses r ≡ false) ↔ (Obeys L × Before (Tied (edgeAt es)) rows)
+  done-tells = (done-given L (x .answer), λ (o, none). ap refuses (answer-exact (done o none (obeys-mended L o))))
 
   module _ (ok : refuses r ≡ false) where
     -- what the laws of the computed table ask for, and that it is the one that is left
     is-repaired : left ≡ repaired es rows
     is-repaired = repaired-left x ok
 
-    has : HasEdges es rows
-    has = omega arith
-
-    obeys : ObeysContainment start ns es
+    obeys : Obeys L
     obeys = done-tells .0 ok .0
 
+    has : HasEdges es rows
+    has = obeys-lent L obeys .edge-rows
+
     right : (i : ℕ) → i < rows → edgeAt es i .from ≤ edgeAt es i .to
-    right i h = obeys .rows .edge-rule i h .label .ends
+    right i h = obeys .edge-rule i h .label .ends
 
     none : (i : ℕ) → i < rows → tied (edgeAt es) i ≡ false
     none = untied-tells (edgeAt es) rows .1 (done-tells .0 ok .1)
@@ -124,16 +125,13 @@ module _ {start : ℕ} {ns es : List ℕ} {r : Answer} {left : List ℕ} (x : Re
     pub done-no-gap : (t c : ℕ) → Gap rows (edgeAt left) t c → ⊥
     done-no-gap = rw is-repaired (left-no-gap es rows has right none)
 
-    -- the table that is left obeys the rules, has as many rows, none of them tied, and is its own repair
-    count-stays : edgeCount left ≡ rows
-    count-stays = ap (λ n. n / edgeWidth) (only-ends .0)
-
+    -- the table that is left obeys the rules, none of its rows is tied, and it is its own repair
     ends-right : (i : ℕ) → i < rows → edgeAt left i .from ≤ edgeAt left i .to
     ends-right = rw is-repaired (left-right es rows has right)
 
-    rule-stays : (i : ℕ) → i < rows → EdgeRule start (nodeCount ns) (nodeAt ns) (edgeAt left i)
+    rule-stays : (i : ℕ) → i < rows → EdgeRule (L .start) (L .nodes .count) (nodeIn L) (edgeAt left i)
     rule-stays i h =
-        let rule = obeys .rows .edge-rule i h in
+        let rule = obeys .edge-rule i h in
         let label = rule .label in
         let same = only-ends .1 i in
         rw same
@@ -144,33 +142,35 @@ module _ {start : ℕ} {ns es : List ℕ} {r : Answer} {left : List ℕ} (x : Re
           label = record { begins = label .begins; ends = rw same at (ends-right i h); not-now = label .not-now };
         })
 
-    obeys-still : ObeysContainment start ns left
+    size-stays : EdgesSize (table left rows)
+    size-stays =
+        let size = obeys .sizes .edges in
+        record { whole = only-ends .0 ∙ size .whole; least = size .least; most = size .most }
+
+    obeys-still : Obeys (withEdges L left)
     obeys-still =
         record {
-          nodes-size = obeys .nodes-size;
-          edges-size = rw (only-ends .0) (obeys .edges-size);
-          rows = record {
-            start-rule = obeys .rows .start-rule;
-            node-rule = obeys .rows .node-rule;
-            edge-rule = λ i h. rule-stays i (rw count-stays at h);
-          };
+          sizes = record { nodes = obeys .sizes .nodes; edges = size-stays; refs = obeys .sizes .refs };
+          start-rule = obeys .start-rule;
+          node-rule = obeys .node-rule;
+          edge-rule = rule-stays;
+          ref-rule = obeys .ref-rule;
         }
 
-    untied-still : Before (Tied (edgeAt left)) (edgeCount left)
-    untied-still =
-        rw count-stays (untied-tells (edgeAt left) rows .0 (rw is-repaired (left-untied es rows has right none)))
+    untied-still : Before (Tied (edgeAt left)) rows
+    untied-still = untied-tells (edgeAt left) rows .0 (rw is-repaired (left-untied es rows has right none))
 
     own-repair : repaired left rows ≡ left
     own-repair = rw is-repaired (left-again es rows has right)
 
-    mended-still : Mended left left
-    mended-still = subst (Mended left) (ap (repaired left) count-stays ∙ own-repair) (mended-repaired left)
+    mended-still : Mended (table left rows) left
+    mended-still = subst (Mended (table left rows)) own-repair (obeys-mended (withEdges L left) obeys-still)
 
-    pub done-again : Repaired start ns left (Done 0 0) left
+    pub done-again : Repaired (withEdges L left) (Done 0 0) left
     done-again =
         record {
           answer =
-              subst (λ n. Answers start ns left (Done 0 n)) (changed-none (edgeAt left) (edgeCount left))
+              subst (λ n. Answers (withEdges L left) (Done 0 n)) (changed-none (edgeAt left) rows)
               (done obeys-still untied-still mended-still);
           kept = λ t. refl;
           mended = λ f. mended-still;

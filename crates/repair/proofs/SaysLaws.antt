@@ -3,7 +3,6 @@ use mathlib.Core.Path.{_≡_, refl, sym, ap, _∙_}
 use mathlib.Core.Bool.{true, false, not}
 use mathlib.Core.List.{List}
 use Prim.Native.Nat.{ℕ, _≤_, _<_}
-use native.Mathlib.Omega.{arith}
 use borrow.Author.Tests.{eq-eqb, lt-ltb, le-ltb}
 use Rattle.ground.specs.Least.{least}
 use Rattle.ground.specs.Sums.{bit}
@@ -11,13 +10,15 @@ use Rattle.ground.proofs.SumLaws.{sum-zero}
 use Rattle.answers.specs.declared.Answer.{Answer}
 use Rattle.answers.specs.declared.Answer.the-variants.{Done, Tie}
 use Rattle.answers.specs.Numbers.{refuses}
-use Rattle.tables.specs.Rows.{Edge, edgeAt, edgeCount, HasEdges}
-use Rattle.tables.specs.Rules.{mostEdges}
-use Rattle.tables.specs.Says.{containmentSays}
-use Rattle.tables.proofs.SaysLaws.{bad-none, contained-tells}
+use Rattle.tables.specs.Rows.{Edge, edgeAt, HasEdges}
+use Rattle.tables.specs.Tables.{Tables}
+use Rattle.tables.specs.Sizes.{mostEdges}
+use Rattle.tables.specs.Says.{historySays, Obeys}
+use Rattle.tables.proofs.GivesLaws.{obeys-tells}
+use Rattle.history.proofs.RuledLaws.{obeys-lent}
 use Rattle.repair.specs.Ends.{tied, newEnd, repaired, changed}
 use Rattle.repair.specs.Steps.{Written}
-use Rattle.repair.specs.Says.{tieAt, settleSays, settleLeaves, repairSays, repairLeaves, Settled, Outcome}
+use Rattle.repair.specs.Says.{settleSays, settleLeaves, repairSays, repairLeaves, Settled, Outcome}
 use Rattle.repair.proofs.StepLaws.{changes-differ}
 
 -- the first tie is a row, or there is none
@@ -36,26 +37,26 @@ module _ (es : List ℕ) (m : ℕ) {row : ℕ} (er : row ≡ least (tied (edgeAt
       }
 
 -- the tables break a rule, or obey them
-module _ (start : ℕ) (ns es : List ℕ) {r : Answer} (er : r ≡ containmentSays start ns es) where
-  pub on-refusal : refuses r ≡ true → Outcome start ns es r es
+module _ (L : Tables) {r : Answer} (er : r ≡ historySays L) where
+  pub on-refusal : refuses r ≡ true → Outcome L r (L .edges .numbers)
   unfolding repairSays repairLeaves
   on-refusal t = record { answer = simp (← er, t); table = simp (← er, t) }
 
-  pub on-rows : {q : Answer} {left : List ℕ} {m : ℕ} → refuses r ≡ false → m ≡ edgeCount es → Settled es m q left
-      → Outcome start ns es q left
-  unfolding repairSays repairLeaves settleLeaves
-  on-rows f em x = record { answer = simp (← er, f, ← em) (x .answer); table = simp (← er, f, ← em) (x .table) }
+  module _ (f : refuses r ≡ false) where
+    pub on-rows : {q : Answer} {left : List ℕ} → Settled (L .edges .numbers) (L .edges .count) q left → Outcome L q left
+    unfolding repairSays repairLeaves settleLeaves
+    on-rows x = record { answer = simp (← er, f) (x .answer); table = simp (← er, f) (x .table) }
 
-  pub rows-most : refuses r ≡ false → edgeCount es ≤ mostEdges
-  rows-most f =
-      let (rows, e, lo, hi) = contained-tells start ns es .0 (ap refuses (sym er) ∙ f) .edges-size in
-      omega arith
+    pub rows-lent : HasEdges (L .edges .numbers) (L .edges .count) × (L .edges .count ≤ mostEdges)
+    rows-lent =
+        let o = obeys-tells L .0 (ap refuses (sym er) ∙ f) in
+        (obeys-lent L o .edge-rows, o .sizes .edges .most)
 
 -- of m rows of which none is tied the count is said
-pub untied-settle : (es : List ℕ) (m : ℕ) → ((i : ℕ) → i < m → tied (edgeAt es) i ≡ false)
+pub untied-settle : (es : List ℕ) (m : ℕ) → m ≤ least (tied (edgeAt es)) m
     → settleSays es m ≡ Done 0 (changed (edgeAt es) (edgeAt (repaired es m)) m)
 unfolding settleSays
-untied-settle es m none = rw (bad-none (tieAt es) (λ i. refl) (tied (edgeAt es)) m none)
+untied-settle es m none = rw (le-ltb (least (tied (edgeAt es)) m) m none)
 
 -- no row of a table differs from itself
 pub changed-none : (edge : ℕ → Edge) (m : ℕ) → changed edge edge m ≡ 0

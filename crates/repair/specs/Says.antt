@@ -2,7 +2,7 @@
 -- the words of Answers.antt.
 --   tieAt                      the tie that row i names
 --   settleSays, settleLeaves   of m rows that obey the rules: the tie, or the repair
---   repairSays, repairLeaves   of any two tables
+--   repairSays, repairLeaves   of any tables
 --   Settled, Outcome           an answer and a table afterwards that are these
 -- Assumes nothing.
 use mathlib.Core.Path.{_≡_}
@@ -13,8 +13,9 @@ use Rattle.answers.specs.declared.Answer.{Answer}
 use Rattle.answers.specs.declared.Answer.the-variants.{Done, Tie}
 use Rattle.answers.specs.Numbers.{refuses}
 use Rattle.answers.specs.Refusals.{_⨾_}
-use Rattle.tables.specs.Rows.{edgeAt, edgeCount}
-use Rattle.tables.specs.Says.{smallest, containmentSays}
+use Rattle.tables.specs.Rows.{edgeAt}
+use Rattle.tables.specs.Tables.{Tables}
+use Rattle.tables.specs.Says.{smallest, historySays}
 use Rattle.repair.specs.Ends.{tied, repaired, changed}
 
 abbrev pub tieAt : List ℕ → ℕ → Answer
@@ -28,20 +29,21 @@ settleSays es m =
     ⨾ Done 0 (changed (edgeAt es) (edgeAt (repaired es m)) m)
 
 -- [01:What the calls answer] Repair "takes start, nodes and the containment table: 1 to 4 in order, then 22"
-unfoldable pub repairSays : ℕ → List ℕ → List ℕ → Answer
-repairSays start ns es = containmentSays start ns es ⨾ settleSays es (edgeCount es)
+unfoldable pub repairSays : Tables → Answer
+repairSays L = historySays L ⨾ settleSays (L .edges .numbers) (L .edges .count)
 
 -- [01:What the calls answer] "No refusal writes to a lent table or buffer."
 unfoldable pub settleLeaves : List ℕ → ℕ → List ℕ
 settleLeaves es m = cond (refuses (settleSays es m)) es (repaired es m)
 
-unfoldable pub repairLeaves : ℕ → List ℕ → List ℕ → List ℕ
-repairLeaves start ns es = cond (refuses (repairSays start ns es)) es (repaired es (edgeCount es))
+unfoldable pub repairLeaves : Tables → List ℕ
+repairLeaves L =
+    cond (refuses (repairSays L)) (L .edges .numbers) (repaired (L .edges .numbers) (L .edges .count))
 
 pub record Settled (es : List ℕ) (m : ℕ) (r : Answer) (left : List ℕ) : Type 0 where
   pub answer : r ≡ settleSays es m
   pub table : left ≡ settleLeaves es m
 
-pub record Outcome (start : ℕ) (ns es : List ℕ) (r : Answer) (left : List ℕ) : Type 0 where
-  pub answer : r ≡ repairSays start ns es
-  pub table : left ≡ repairLeaves start ns es
+pub record Outcome (L : Tables) (r : Answer) (left : List ℕ) : Type 0 where
+  pub answer : r ≡ repairSays L
+  pub table : left ≡ repairLeaves L

@@ -2,15 +2,16 @@
 mod mend;
 mod tie;
 
+ghost use mathlib.Core.List.{[]};
 ghost use Prim.Native.Nat.{_≤_};
 ghost use Rattle.tables.specs.Rows.{HasEdges};
-ghost use Rattle.tables.specs.Rules.{mostEdges};
+ghost use Rattle.tables.specs.Tables.{lent};
+ghost use Rattle.tables.specs.Sizes.{mostEdges};
 ghost use Rattle.repair.specs.Says.{Settled};
 ghost use Rattle.repair.specs.Answers.{Repaired};
 use answers::Answer;
 use mend::mend;
-use tables::judge::judge_containment;
-use tables::rows::edge_count;
+use tables::judge::judge_history;
 use tables::rows::edge_from;
 use tie::first_tie;
 
@@ -22,20 +23,23 @@ fn settle(edges: &mut [u32], m: usize) -> Answer
     let row = first_tie(edges, m);
     if row < m {
         let from = edge_from(edges, row);
-        return Answer::Tie(from, row as u32);
+        let place = row as u32;
+        return Answer::Tie(from, place);
     }
-    let n = mend(edges, m);
-    Answer::Done(0, n as u32)
+    let place = mend(edges, m) as u32;
+    Answer::Done(0, place)
 }
 
-// Codes 1 to 4 and 22 in their order; else only ends change, and the place is the count of rows whose end does.
-pub fn repair(start: u32, nodes: &[u32], edges: &mut [u32]) -> Answer
-    ensures { λ r. ⌜ Repaired start (now (nodes .entry)) (now (edges .entry)) r (now (edges .exit)) ⌝ }
+// Codes 1 to 4 and 22 in their order; else only ends change, and the place is the count of rows whose end does. There
+// are no references, so the rules give codes 1 to 4 alone.
+pub fn repair(start: u32, nodes: &[u32], n: usize, edges: &mut [u32], m: usize) -> Answer
+    ensures { λ r. ⌜ Repaired (lent start (now (nodes .entry)) n (now (edges .entry)) m [] 0) r
+        (now (edges .exit)) ⌝ }
 {
-    let rows = judge_containment(start, nodes, edges);
-    if rows.refuses() {
-        return rows;
+    let none = [0u32; 0];
+    let rules = judge_history(start, nodes, n, edges, m, &none, 0);
+    if rules.refuses() {
+        return rules;
     }
-    let m = edge_count(edges);
     settle(edges, m)
 }

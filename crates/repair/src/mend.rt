@@ -6,16 +6,16 @@ ghost use Prim.Native.Nat.{_+_, _≤_};
 ghost use lib.Dec.{ltb};
 ghost use lib.ListN.{length};
 ghost use Rattle.tables.specs.Rows.{edgeAt, HasEdges};
-ghost use Rattle.tables.specs.Rules.{mostEdges};
+ghost use Rattle.tables.specs.Sizes.{mostEdges};
 ghost use Rattle.repair.specs.Ends.{sooner, endBefore, newEnd};
 ghost use Rattle.repair.specs.Steps.{Bounded, nth, Found, Written};
 use ground::larger;
 use ground::smaller;
-use tables::judge::MOST_EDGES;
 use tables::rows::edge_child;
 use tables::rows::edge_from;
 use tables::rows::edge_to;
 use tables::rows::set_edge_end;
+use tables::sizes::MOST_EDGES;
 
 // What the end of a row depends on: among the rows into its child the next start, or 0 for none, and the largest end.
 struct Bounds {

@@ -1,13 +1,25 @@
 use native.Mathlib.Omega.{arith}
-use mathlib.Core.Path.{sym, _∙_}
-use Rattle.repair.proofs.SaysLaws.{on-refusal, on-rows, rows-most}
+use mathlib.Core.Path.{_≡_, sym, _∙_}
+use mathlib.Core.Bool.{false}
+use Rattle.answers.specs.Numbers.{refuses}
+use Rattle.repair.proofs.SaysLaws.{on-refusal, on-rows, rows-lent}
 use Rattle.repair.proofs.AnswersLaws.{repaired-of}
 use borrow.Author.Needs.{needs}
 use Rattle.repair.proofs.repair.Statement.{statement}
 use Rattle.repair.proofs.repair.Tie as tie
 
-judge-containment-requires : tie.Need-judge-containment-requires
-judge-containment-requires c κs = search needs
+-- the rules are judged, and refuse nothing
+abbrev judged : tie.Else1 → tie.After-judge-history
+judged c = c .before .before
+
+passed : (c : tie.Else1) → refuses (judged c .judge-history .result) ≡ false
+passed c = sym (c .before .refuses .ensures) ∙ c .if1 .left
+
+slice-aggregate-judge-history : tie.Need-slice-aggregate-judge-history
+slice-aggregate-judge-history c = search needs
+
+judge-history-requires : tie.Need-judge-history-requires
+judge-history-requires c κs = search needs
 
 refuses-requires : tie.Need-refuses-requires
 refuses-requires c κs = search needs
@@ -19,41 +31,31 @@ returns : tie.Need-returns
 returns c =
     let asked = c .before in
     repaired-of
-    (on-refusal _ _ _ (asked .before .judge-containment .ensures) (sym (asked .refuses .ensures) ∙ c .if1 .taken))
-
-edge-count-requires : tie.Need-edge-count-requires
-edge-count-requires c κs = search needs
+    (on-refusal _ (asked .before .judge-history .ensures) (sym (asked .refuses .ensures) ∙ c .if1 .taken))
 
 settle-requires : tie.Need-settle-requires
 settle-requires c κs =
-    let right = c .before .before .before in
-    let asked = right .before in
-    let passed = sym (asked .refuses .ensures) ∙ right .if1 .left in
-    let most = rows-most _ _ _ (asked .before .judge-containment .ensures) passed in
-    (search needs, omega arith)
+    let (has, most) = rows-lent _ (judged (c .before) .judge-history .ensures) (passed (c .before)) in
+    (omega arith, omega arith)
 
 same-length-2 : tie.Need-same-length-2
 same-length-2 c = search needs
 
 returns-2 : tie.Need-returns-2
 returns-2 c =
-    let settle = c .before .before in
-    let counted = settle .before .before in
-    let right = counted .before .before in
-    let asked = right .before in
-    repaired-of
-    (on-rows _ _ _ (asked .before .judge-containment .ensures) (sym (asked .refuses .ensures) ∙ right .if1 .left)
-    (counted .edge-count .ensures) (settle .settle .ensures))
+    let settled = c .before .before in
+    let right = settled .before .before in
+    repaired-of (on-rows _ (judged right .judge-history .ensures) (passed right) (settled .settle .ensures))
 
 pub repair-spec : {M : Type 1} → statement M
 repair-spec =
     tie.close
     (tie.spec
-    judge-containment-requires
+    slice-aggregate-judge-history
+    judge-history-requires
     refuses-requires
     same-length
     returns
-    edge-count-requires
     settle-requires
     same-length-2
     returns-2)

@@ -11,32 +11,31 @@ first-tie-requires c κs = search needs
 edge-from-requires : tie.Need-edge-from-requires
 edge-from-requires c κs = search needs
 
-cast-t11 : tie.Need-cast-t11
-cast-t11 c = search needs
+cast-place : tie.Need-cast-place
+cast-place c = search needs
 
 same-length : tie.Need-same-length
 same-length c = search needs
 
 returns : tie.Need-returns
 returns c =
-    let tie = c .before .before in
-    on-tie _ _ (tie .before .first-tie .ensures) (tie .if1 .taken) (c .edge-from .ensures)
+    let found = c .before .before in
+    on-tie _ _ (found .before .first-tie .ensures) (found .if1 .taken) (c .edge-from .ensures)
 
 mend-requires : tie.Need-mend-requires
 mend-requires c κs = search needs
 
-cast-t14 : tie.Need-cast-t14
-cast-t14 c = omega (arith, written-le (c .before .before .mend .ensures))
+cast-place-2 : tie.Need-cast-place-2
+cast-place-2 c = omega (arith, written-le (c .before .before .mend .ensures))
 
 same-length-2 : tie.Need-same-length-2
 same-length-2 c = search needs
 
 returns-2 : tie.Need-returns-2
 returns-2 c =
-    let mend = c .before .before in
-    let none = mend .before .before in
-    on-mend _ _ (none .before .first-tie .ensures) (none .before .before .before .before .pre .0) (none .if1 .left)
-    (mend .mend .ensures)
+    let mended = c .before .before in
+    let none = mended .before .before in
+    on-mend _ _ (none .before .first-tie .ensures) (search needs) (none .if1 .left) (mended .mend .ensures)
 
 pub settle-spec : {M : Type 1} → statement M
 settle-spec =
@@ -44,10 +43,10 @@ settle-spec =
     (tie.spec
     first-tie-requires
     edge-from-requires
-    cast-t11
+    cast-place
     same-length
     returns
     mend-requires
-    cast-t14
+    cast-place-2
     same-length-2
     returns-2)
