@@ -38,22 +38,27 @@ unfolding grows
 grows-is hi v c g =
     simp (le-ltb c nought (g .low), le-ltb nine c (g .high), le-leb (v * 10 + (c - nought)) hi (g .small))
 
-module _ (hi v : ℕ) (s : List ℕ) (i : ℕ) where
-  pub more-step : i < length s → grows hi v (getD s i 0) ≡ true
-      → more hi v i (drop i s) ≡ more hi (v * 10 + (getD s i 0 - nought)) (i + 1) (drop (i + 1) s)
-  unfolding more
-  more-step h g = rw (drop-step s i h, g)
+-- v has been read up to place i, and reading goes on from there
+pub record Reading (hi first : ℕ) (s : List ℕ) (at v i : ℕ) : Type 0 where
+  pub rest : more hi first at (drop at s) ≡ more hi v i (drop i s)
+  pub small : v ≤ hi
 
-  pub more-stop : i < length s → grows hi v (getD s i 0) ≡ false → more hi v i (drop i s) ≡ Is v i
+module _ {hi first : ℕ} {s : List ℕ} {at v i : ℕ} (r : Reading hi first s at v i) where
+  pub more-turn : i < length s → grows hi v (getD s i 0) ≡ true
+      → Reading hi first s at (v * 10 + (getD s i 0 - nought)) (i + 1)
   unfolding more
-  more-stop h g = rw (drop-step s i h, g)
+  more-turn h g = record { rest = r .rest ∙ rw (drop-step s i h, g); small = grows-true hi v (getD s i 0) g .small }
 
-  pub more-end : length s ≤ i → more hi v i (drop i s) ≡ Is v i
+  pub more-stop : i < length s → grows hi v (getD s i 0) ≡ false → Is v i ≡ more hi first at (drop at s)
   unfolding more
-  more-end h = rw (drop-of-length-le s h)
+  more-stop h g = sym (r .rest ∙ rw (drop-step s i h, g))
+
+  pub more-end : length s ≤ i → Is v i ≡ more hi first at (drop at s)
+  unfolding more
+  more-end h = sym (r .rest ∙ rw (drop-of-length-le s h))
 
 module _ (hi : ℕ) (s : List ℕ) (i : ℕ) where
-  pub num-end : length s ≤ i → numAt hi s i ≡ Missing
+  pub num-end : length s ≤ i → numAt hi s i ≡ Missing i
   unfolding numAt num
   num-end h = rw (drop-of-length-le s h)
 
@@ -67,7 +72,7 @@ module _ (hi : ℕ) (s : List ℕ) (i : ℕ) where
   num-more h n g = rw (drop-step s i h, ne-eqb (getD s i 0) nought n, g)
 
   pub num-missing : i < length s → (getD s i 0 ≡ nought → ⊥) → grows hi 0 (getD s i 0) ≡ false
-      → numAt hi s i ≡ Missing
+      → numAt hi s i ≡ Missing i
   unfolding numAt num
   num-missing h n g = rw (drop-step s i h, ne-eqb (getD s i 0) nought n, g)
 
@@ -200,15 +205,15 @@ num-longest hi i xs v n e (suc u) ys h q =
     (sym (num-head hi i (suc u) ys (omega arith) h) ∙ ap (num hi i) (sym q) ∙ e) in
     omega (arith, m .long)
 
-pub num-none : (hi i : ℕ) (xs : List ℕ) → num hi i xs ≡ Missing → (u : ℕ) (ys : List ℕ) → u ≤ hi → xs ≡ dec u ++ ys
-    → ⊥
+pub num-none : (hi i : ℕ) (xs : List ℕ) (p : ℕ) → num hi i xs ≡ Missing p → (u : ℕ) (ys : List ℕ) → u ≤ hi
+    → xs ≡ dec u ++ ys → ⊥
 unfolding num
-num-none hi i xs e zero ys h q =
-    let z₁ : num hi i (nought ∷ ys) ≡ Missing = ap (num hi i)
+num-none hi i xs p e zero ys h q =
+    let z₁ : num hi i (nought ∷ ys) ≡ Missing p = ap (num hi i)
     (sym (q ∙ ap (λ (r : List ℕ). r ++ ys) (dec-small 0 (omega arith)))) ∙ e in
     let z : _≡_ {A = ℕ} 0 1 = cc in omega arith
-num-none hi i xs e (suc u) ys h q =
+num-none hi i xs p e (suc u) ys h q =
     let m = more-some hi (suc u) (i + length (dec (suc u))) ys in
-    let z₁ : Is (m .0) (m .1) ≡ Missing = sym (m .2) ∙ sym (num-head hi i (suc u) ys (omega arith) h)
+    let z₁ : Is (m .0) (m .1) ≡ Missing p = sym (m .2) ∙ sym (num-head hi i (suc u) ys (omega arith) h)
     ∙ ap (num hi i) (sym q) ∙ e in
     let z : _≡_ {A = ℕ} 0 1 = cc in omega arith

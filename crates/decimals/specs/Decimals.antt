@@ -4,7 +4,8 @@
 --   grows hi v c     the byte c is a digit, and v with that digit after it is at most hi
 --   more hi v i xs   v with the digits at the beginning of xs after it, while that is at most hi
 --   num hi i xs      the longest beginning of xs that is the decimal of a number at most hi: the number, and the
---                    place after it, where xs begins at place i; Missing where there is none (proofs/ReadLaws.antt)
+--                    place after it, where xs begins at place i; where there is none, xs does not begin one either:
+--                    Missing i (proofs/ReadLaws.antt)
 --   numAt hi s i     the same of what is left of s at place i
 -- A digit too many is not read, and so neither is one after a leading zero: what must stand after a number does not
 -- stand there. Assumes nothing.
@@ -42,8 +43,9 @@ more hi v i [] = Is v i
 more hi v i (c ∷ xs) = let rest = more hi (v * 10 + (c - nought)) (i + 1) xs in cond (grows hi v c) rest (Is v i)
 
 unfoldable pub num : ℕ → ℕ → List ℕ → Num
-num hi i [] = Missing
-num hi i (c ∷ xs) = cond (eqb c nought) (Is 0 (i + 1)) (cond (grows hi 0 c) (more hi (c - nought) (i + 1) xs) Missing)
+num hi i [] = Missing i
+num hi i (c ∷ xs) =
+    cond (eqb c nought) (Is 0 (i + 1)) (cond (grows hi 0 c) (more hi (c - nought) (i + 1) xs) (Missing i))
 
 unfoldable pub numAt : ℕ → List ℕ → ℕ → Num
 numAt hi s i = num hi i (drop i s)

@@ -5,10 +5,11 @@ ghost use lib.ListN.{length, drop};
 ghost use Rattle.decimals.specs.Decimals.{dec, grows, more, numAt};
 ghost use Rattle.ground.specs.Stores.{Put};
 
-// A number that was read, with the place after it; or none stands there.
+// A number that was read, with the place after it; or none stands there, and what stands there begins one up to this
+// place.
 pub enum Num {
     Is(u32, usize),
-    Missing,
+    Missing(usize),
 }
 
 fn wide(b: u8) -> u64
@@ -54,7 +55,7 @@ pub fn read_decimal(text: &[u8], at: usize, hi: u32) -> Num
     ensures { λ r. ⌜ r ≡ numAt hi (now (text .entry)) at ⌝ }
 {
     if text.len() <= at {
-        return Num::Missing;
+        return Num::Missing(at);
     }
     let c = text[at];
     if c == b'0' {
@@ -63,7 +64,7 @@ pub fn read_decimal(text: &[u8], at: usize, hi: u32) -> Num
     if grows(hi, 0, c) {
         read_more(text, at + 1, hi, (c - b'0') as u32)
     } else {
-        Num::Missing
+        Num::Missing(at)
     }
 }
 

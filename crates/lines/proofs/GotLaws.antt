@@ -13,6 +13,8 @@ use Rattle.lines.specs.Reads.{
   got,
   wrong,
   andThen,
+  onLine,
+  refusedAt,
   onto,
   thenNumber,
   isGot,
@@ -85,6 +87,20 @@ module _ {A B : Type 0} (go : A → ℕ → Got B) where
   got-then (wrong p) b n e = let z : _≡_ {A = ℕ} 0 1 = cc in absurd (omega arith)
   got-then (got a m) b n e = (a, m, refl, e)
 
+module _ {A : Type 0} (i : ℕ) where
+  pub line-got : (r : Got A) {a : A} {n : ℕ} → r ≡ got a n → onLine i r ≡ got a n
+  unfolding onLine
+  line-got r e = rw e
+
+  pub line-wrong : (r : Got A) {p : ℕ} → r ≡ wrong p → onLine i r ≡ wrong (refusedAt i p)
+  unfolding onLine
+  line-wrong r e = rw e
+
+  pub got-line : (r : Got A) (a : A) (n : ℕ) → onLine i r ≡ got a n → r ≡ got a n
+  unfolding onLine
+  got-line (got b m) a n e = e
+  got-line (wrong p) a n e = let z : _≡_ {A = ℕ} 0 1 = cc in absurd (omega arith)
+
 pub got-onto : (us : List ℕ) (r : Got (List ℕ)) (vs : List ℕ) (n : ℕ) → onto us r ≡ got vs n
     → (ws : List ℕ) × (r ≡ got ws n) × (vs ≡ us ++ ws)
 unfolding onto
@@ -96,11 +112,11 @@ unfolding onto
 wrong-onto us (got vs n) p e = let z : _≡_ {A = ℕ} 0 1 = cc in absurd (omega arith)
 wrong-onto us (wrong q) p e = e
 
-pub got-number : (r : Num) (p : ℕ) (go : ℕ → ℕ → Got (List ℕ)) (vs : List ℕ) (n : ℕ) → thenNumber r p go ≡ got vs n
+pub got-number : (r : Num) (go : ℕ → ℕ → Got (List ℕ)) (vs : List ℕ) (n : ℕ) → thenNumber r go ≡ got vs n
     → (u : ℕ) × (m : ℕ) × (r ≡ Is u m) × (go u m ≡ got vs n)
 unfolding thenNumber
-got-number Missing p go vs n e = let z : _≡_ {A = ℕ} 0 1 = cc in absurd (omega arith)
-got-number (Is u m) p go vs n e = (u, m, refl, e)
+got-number (Missing p) go vs n e = let z : _≡_ {A = ℕ} 0 1 = cc in absurd (omega arith)
+got-number (Is u m) go vs n e = (u, m, refl, e)
 
 pub got-cond : (b : Bool) (p : ℕ) (r : Got (List ℕ)) (vs : List ℕ) (n : ℕ) → cond b r (wrong p) ≡ got vs n
     → (b ≡ true) × (r ≡ got vs n)

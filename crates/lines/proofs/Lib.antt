@@ -6,4 +6,5 @@ pub mod FillLaws
 pub mod WriteLaws
 pub mod PlaceLaws
 pub mod PlanLaws
-pub mod AlongLaws
+pub mod EndLaws
+pub mod ByteCases

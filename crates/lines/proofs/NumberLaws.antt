@@ -1,11 +1,12 @@
 -- A key and a number of a line: what is printed is read, and what is read was printed. Assumes nothing.
 use mathlib.Core.Bool.{Bool, true, false}
 use mathlib.Core.List.{List, [], _∷_, _++_}
+use mathlib.Core.Logic.{_⊎_, inl, inr, ⊎-elim}
 use mathlib.Core.Path.{_≡_, refl, sym, ap, ap₂, _∙_}
-use Prim.Native.Nat.{ℕ, _+_, _-_, _%_, _≤_, _<_}
+use Prim.Native.Nat.{ℕ, suc, _+_, _-_, _%_, _≤_, _<_}
 use native.Mathlib.Omega.{arith}
 use lib.Dec.{leb, eqb}
-use lib.ListN.{length, drop}
+use lib.ListN.{length, drop, length-drop}
 use lib.Seq.{drop-drop}
 use borrow.Author.Tests.{eqb-true, eqb-false, eq-eqb, ne-eqb, le-leb, leb-true}
 use Rattle.ground.specs.Stands.{Stands}
@@ -18,32 +19,45 @@ use Rattle.decimals.proofs.DecimalLaws.{by-digits, dec-small, dec-snoc}
 use Rattle.decimals.proofs.ReadLaws.{num-of, num-is}
 use Rattle.lines.specs.declared.form.Form.{Form}
 use Rattle.lines.specs.Lines.{nowWord, numberText, NumberOk}
-use Rattle.lines.specs.Reads.{hasAt, atLeast, begins, numberAt}
+use Rattle.lines.specs.Reads.{begun, begunAt, atLeast, orNow, numberAt}
 
 -- ---- a key
 
-begins-is : (k xs : List ℕ) → begins k xs ≡ true → xs ≡ k ++ drop (length k) xs
-unfolding begins
-begins-is [] xs e = refl
-begins-is (b ∷ k) [] e = let y : _≡_ {A = ℕ} 0 1 = cc in absurd (omega arith)
-begins-is (b ∷ k) (c ∷ xs) e =
+begun-is : (k xs : List ℕ) → begun k xs ≡ length k → xs ≡ k ++ drop (length k) xs
+unfolding begun
+begun-is [] xs e = refl
+begun-is (b ∷ k) [] e = absurd (omega arith)
+begun-is (b ∷ k) (c ∷ xs) e =
     by-test (eqb c b)
-    (λ t. ap₂ (λ (a : ℕ) (r : List ℕ). a ∷ r) (eqb-true c b t) (begins-is k xs (rw t at e)))
-    (λ t. let f = rw t at e in let y : _≡_ {A = ℕ} 0 1 = cc in absurd (omega arith))
+    (λ t.
+    let f = rw t at e in
+    ap₂ (λ (a : ℕ) (r : List ℕ). a ∷ r) (eqb-true c b t) (begun-is k xs (omega arith)))
+    (λ t. let f = rw t at e in absurd (omega arith))
 
-begins-of : (k ys : List ℕ) → begins k (k ++ ys) ≡ true
-unfolding begins
-begins-of [] ys = refl
-begins-of (b ∷ k) ys = rw (eq-eqb b b refl) (begins-of k ys)
+begun-of : (k ys : List ℕ) → begun k (k ++ ys) ≡ length k
+unfolding begun
+begun-of [] ys = refl
+begun-of (b ∷ k) ys = rw (eq-eqb b b refl) (ap suc (begun-of k ys))
 
-pub has-is : (k s : List ℕ) (i : ℕ) → hasAt k s i ≡ true → Stands s i k (i + length k)
-unfolding hasAt
+begun-le : (k xs : List ℕ) → begun k xs ≤ length xs
+unfolding begun
+begun-le [] xs = omega arith
+begun-le (b ∷ k) [] = omega arith
+begun-le (b ∷ k) (c ∷ xs) = by-test (eqb c b) (λ t. rw t (omega (arith, begun-le k xs))) (λ t. rw t (omega arith))
+
+-- what begins a key stands within the text
+pub begun-within : (k s : List ℕ) (i n : ℕ) → n ≡ begunAt k s i → i ≤ length s → i + n ≤ length s
+unfolding begunAt
+begun-within k s i n e h = omega (arith, begun-le k (drop i s), length-drop i s)
+
+pub has-is : (k s : List ℕ) (i : ℕ) → begunAt k s i ≡ length k → Stands s i k (i + length k)
+unfolding begunAt
 has-is k s i e =
-    record { here = begins-is k (drop i s) e ∙ ap (λ (r : List ℕ). k ++ r) (drop-drop (length k) i s); after = refl }
+    record { here = begun-is k (drop i s) e ∙ ap (λ (r : List ℕ). k ++ r) (drop-drop (length k) i s); after = refl }
 
-pub has-of : (k s : List ℕ) (i : ℕ) (ys : List ℕ) → drop i s ≡ k ++ ys → hasAt k s i ≡ true
-unfolding hasAt
-has-of k s i ys e = rw e (begins-of k ys)
+pub has-of : (k s : List ℕ) (i : ℕ) (ys : List ℕ) → drop i s ≡ k ++ ys → begunAt k s i ≡ length k
+unfolding begunAt
+has-of k s i ys e = rw e (begun-of k ys)
 
 -- ---- a number
 
@@ -59,32 +73,44 @@ num-stands hi s i v n e =
       },
     )
 
-at-least-is : (lo : ℕ) (r : Num) (v n : ℕ) → atLeast lo r ≡ Is v n → (r ≡ Is v n) × (lo ≤ v)
+at-least-is : (lo i : ℕ) (r : Num) (v n : ℕ) → atLeast lo i r ≡ Is v n → (r ≡ Is v n) × (lo ≤ v)
 unfolding atLeast
-at-least-is lo Missing v n e = let z : _≡_ {A = ℕ} 0 1 = cc in absurd (omega arith)
-at-least-is lo (Is u m) v n e =
+at-least-is lo i (Missing p) v n e = let z : _≡_ {A = ℕ} 0 1 = cc in absurd (omega arith)
+at-least-is lo i (Is u m) v n e =
     by-test (leb lo u)
     (λ t. let f = rw t at e in let q : u ≡ v = cc in (f, omega (arith, leb-true lo u t)))
     (λ t. let f = rw t at e in let z : _≡_ {A = ℕ} 0 1 = cc in absurd (omega arith))
+
+-- the word `now` was read, or a number
+or-now-is : (i k : ℕ) (x : Num) (v n : ℕ) → orNow i k x ≡ Is v n
+    → (x ≡ Is v n) ⊎ ((k ≡ length nowWord) × (v ≡ Now) × (n ≡ i + length nowWord))
+unfolding orNow
+or-now-is i k x v n e =
+    by-test (eqb k 0)
+    (λ t. inl (rw t at e))
+    (λ t. by-test (eqb k 3)
+    (λ u.
+    let f = rw (t, u) at e in
+    let w = eqb-true k 3 u in
+    let q : Now ≡ v = cc in
+    let m : i + k ≡ n = cc in
+    inr (w, sym q, omega arith))
+    (λ u. let f = rw (t, u) at e in let z : _≡_ {A = ℕ} 0 1 = cc in absurd (omega arith)))
 
 pub number-is : (f : Form) (last : Bool) (s : List ℕ) (i v n : ℕ) → numberAt f last s i ≡ Is v n
     → NumberOk f last v × Stands s i (numberText last v) n
 unfolding numberAt numberText
 number-is f false s i v n e =
-    let a = at-least-is (f .least) (numAt (f .most) s i) v n e in
+    let a = at-least-is (f .least) i (numAt (f .most) s i) v n e in
     let b = num-stands (f .most) s i v n (a .0) in
     ((a .1, b .0), b .1)
 number-is f true s i v n e =
-    by-test (hasAt nowWord s i)
-    (λ t.
-    let g = rw t at e in
-    let q : Now ≡ v = cc in
-    let m : i + 3 ≡ n = cc in
-    let h = has-is nowWord s i t in
-    (omega arith, rw (eq-eqb v Now (sym q)) (rw m at h)))
-    (λ t.
-    let b = num-stands (Now - 1) s i v n (rw t at e) in
+    ⊎-elim
+    (λ x.
+    let b = num-stands (Now - 1) s i v n x in
     (omega (arith, b .0), rw (ne-eqb v Now (λ q. omega (arith, b .0))) (b .1)))
+    (λ (k, q, m). (omega arith, rw (eq-eqb v Now q, m) (has-is nowWord s i k)))
+    (or-now-is i (begunAt nowWord s i) _ v n e)
 
 -- the first byte of a decimal is a digit, so that it does not begin the word `now`
 dec-first : (v : ℕ) → (b : ℕ) × (r : List ℕ) × (dec v ≡ b ∷ r) × (b ≤ nine)
@@ -99,8 +125,8 @@ dec-first =
       ih .3,
     ))
 
-not-now : (v : ℕ) (s : List ℕ) (i : ℕ) (ys : List ℕ) → drop i s ≡ dec v ++ ys → hasAt nowWord s i ≡ false
-unfolding hasAt begins
+not-now : (v : ℕ) (s : List ℕ) (i : ℕ) (ys : List ℕ) → drop i s ≡ dec v ++ ys → begunAt nowWord s i ≡ 0
+unfolding begunAt begun
 not-now v s i ys e =
     let d = dec-first v in
     rw (e ∙ ap (λ (r : List ℕ). r ++ ys) (d .2), ne-eqb (d .0) 110 (λ q. omega (arith, d .3)))
@@ -113,7 +139,7 @@ num-at hi s i v c ys h l e = rw e (num-of hi i v c ys h l)
 pub number-of : (f : Form) (last : Bool) (s : List ℕ) (i v c : ℕ) (ys : List ℕ) → NumberOk f last v → c < nought
     → drop i s ≡ numberText last v ++ (c ∷ ys)
     → numberAt f last s i ≡ Is v (i + length (numberText last v))
-unfolding numberAt numberText atLeast
+unfolding numberAt numberText atLeast orNow
 number-of f false s i v c ys ok l e = rw (num-at (f .most) s i v c ys (ok .1) l e, le-leb (f .least) v (ok .0))
 number-of f true s i v c ys ok l e =
     by-test (eqb v Now)

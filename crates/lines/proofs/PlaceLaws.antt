@@ -1,81 +1,43 @@
 -- The place at which reading ends, said by the text of lines alone: as far as lines stand that are right, reading
 -- goes (`lines-past`), and where it is refused, such lines stand (`lines-before`). Assumes nothing.
-use mathlib.Core.Bool.{Bool, true, false, cond}
-use mathlib.Core.List.{List, [], _∷_, _++_, append-assoc}
+use mathlib.Core.Bool.{Bool, true, false}
+use mathlib.Core.List.{List, [], _++_, append-assoc}
 use mathlib.Core.Path.{_≡_, refl, sym, ap, subst, _∙_}
 use Prim.Native.Nat.{ℕ, zero, suc, _+_, _*_, _≤_}
 use native.Mathlib.Nat.{zero-mul}
 use native.Mathlib.Omega.{arith}
-use lib.Dec.{eqb}
-use lib.ListN.{length, getD, take, drop, replicate, length-replicate, length-append}
+use lib.ListN.{length, take, drop, replicate, length-replicate, length-append}
 use lib.Seq.{take-nil}
 use Rattle.ground.specs.Stands.{Stands}
 use Rattle.ground.proofs.ListLaws.{stands-nil, stands-append, rest-at}
 use Rattle.tables.specs.Instants.{Now}
-use Rattle.decimals.specs.declared.Num.{Num}
-use Rattle.decimals.specs.declared.Num.the-variants.{Is, Missing}
 use Rattle.lines.specs.declared.form.Form.{Form}
-use Rattle.lines.specs.Lines.{isEnd, mark, lineText, linesOf, joined, NumberOk, NumbersOk, LinesOk}
-use Rattle.lines.specs.Reads.{
-  Got,
-  got,
-  wrong,
-  hasAt,
-  numberAt,
-  onto,
-  thenNumber,
-  numbersAt,
-  lineAt,
-  linesAt,
-  placeOf,
-}
+use Rattle.lines.specs.Lines.{widthOf, isEnd, lineText, linesOf, joined, rowOf, NumberOk, NumbersOk, LinesOk}
+use Rattle.lines.specs.Reads.{got, wrong, onto, onLine, lineAt, linesAt, placeOf}
 use Rattle.lines.proofs.GotLaws.{
   by-got,
   got-not-wrong,
   wrong-place,
   then-got,
   then-wrong,
+  line-got,
+  line-wrong,
   wrong-onto,
   onto-place,
 }
 use Rattle.lines.proofs.LineLaws.{LineIs, line-is, line-of, ok-cons, long-cons, lines-cons}
 
--- ---- a line that is refused is refused at its first byte
-
-number-wrong : (x : Num) (p : ℕ) (go : ℕ → ℕ → Got (List ℕ)) (q : ℕ) → ((v n : ℕ) → go v n ≡ wrong q → q ≡ p)
-    → thenNumber x p go ≡ wrong q → q ≡ p
-unfolding thenNumber
-number-wrong Missing p go q h e = cc
-number-wrong (Is v n) p go q h e = h v n e
-
-cond-wrong : (b : Bool) (r : Got (List ℕ)) (p q : ℕ) → (r ≡ wrong q → q ≡ p) → cond b r (wrong p) ≡ wrong q → q ≡ p
-cond-wrong true r p q h e = h e
-cond-wrong false r p q h e = cc
-
-numbers-wrong : (f : Form) (s : List ℕ) (p w i q : ℕ) → numbersAt f s p w i ≡ wrong q → q ≡ p
-unfolding numbersAt
-numbers-wrong f s p zero i q e = let z : _≡_ {A = ℕ} 0 1 = cc in absurd (omega arith)
-numbers-wrong f s p (suc w) i q e =
-    number-wrong (numberAt f (isEnd f w) s i) p _ q
-    (λ v n g. cond-wrong (eqb (getD s n 0) (mark w)) _ p q
-    (λ h. numbers-wrong f s p w (n + 1) q (wrong-onto (v ∷ []) (numbersAt f s p w (n + 1)) q h)) g)
-    e
-
-pub line-wrong : (k : List ℕ) (f : Form) (s : List ℕ) (i q : ℕ) → lineAt k f s i ≡ wrong q → q ≡ i
-unfolding lineAt
-line-wrong k f s i q e = cond-wrong (hasAt k s i) _ i q (numbers-wrong f s i (f .width) (i + length k) q) e
-
 -- ---- as far as right lines stand, reading goes
 
 module _ (k : List ℕ) (f : Form) (s : List ℕ) where
   after-line : (m i : ℕ) (us : List ℕ) (n : ℕ) → lineAt k f s i ≡ got us n
-      → linesAt k f s (suc m) i ≡ onto us (linesAt k f s m n)
+      → linesAt k f s (suc m) i ≡ onto (rowOf f us) (linesAt k f s m n)
   unfolding linesAt
-  after-line m i us n e = then-got _ (lineAt k f s i) e
+  after-line m i us n e = then-got _ (onLine i (lineAt k f s i)) (line-got i (lineAt k f s i) e)
 
-  pub at-line : (m i p : ℕ) → lineAt k f s i ≡ wrong p → linesAt k f s (suc m) i ≡ wrong i
+  at-line : (m i p : ℕ) → lineAt k f s i ≡ wrong p → linesAt k f s (suc m) i ≡ wrong i
   unfolding linesAt
-  at-line m i p e = then-wrong _ (lineAt k f s i) (e ∙ ap wrong (line-wrong k f s i p e))
+  at-line m i p e = then-wrong _ (onLine i (lineAt k f s i)) (line-wrong i (lineAt k f s i) e)
 
   pub lines-mono : (m i : ℕ) → i ≤ placeOf (linesAt k f s m i)
   unfolding linesAt placeOf
@@ -87,7 +49,7 @@ module _ (k : List ℕ) (f : Form) (s : List ℕ) where
         line-is k f s i us n e .stands .after,
         lines-mono m n,
         ap placeOf
-            (after-line m i us n e) ∙ onto-place us (linesAt k f s m n),
+            (after-line m i us n e) ∙ onto-place (rowOf f us) (linesAt k f s m n),
       ))
       (λ p e. omega (arith, ap placeOf (at-line m i p e)))
 
@@ -98,17 +60,17 @@ module _ (k : List ℕ) (f : Form) (s : List ℕ) where
   lines-past (suc m) i vs zero n ok st = omega (arith, st .after, lines-mono (suc m) i)
   lines-past (suc m) i vs (suc j) n ok st =
       let x = lineText k f vs in
-      let r = joined (take j (linesOf k f m (drop (f .width) vs))) in
+      let r = joined (take j (linesOf k f m (drop (widthOf f) vs))) in
       let here : drop i s ≡ x ++ (r ++ drop n s) = st .here ∙ append-assoc x r (drop n s) in
-      let e = line-of k f s i vs (r ++ drop n s) (ok .0) here in
+      let e = line-of k f s i vs (r ++ drop n s) (ok .0 .shown) here in
       let rest : Stands s (i + length x) r n =
       record { here = rest-at s i x (r ++ drop n s) here; after = omega (arith, st .after, length-append x r) } in
-      let ih = lines-past m (i + length x) (drop (f .width) vs) j n (ok .1) rest in
+      let ih = lines-past m (i + length x) (drop (widthOf f) vs) j n (ok .1) rest in
       omega (
         arith,
         ih,
         ap placeOf (after-line m i _ (i + length x) e)
-            ∙ onto-place (take (f .width) vs) (linesAt k f s m (i + length x)),
+            ∙ onto-place _ (linesAt k f s m (i + length x)),
       )
 
 -- ---- where lines are refused, right lines stand up to there
@@ -129,14 +91,14 @@ numbers-least f (suc w) o = (number-least f (isEnd f w) o, numbers-least f w o)
 -- numbers for m lines
 least : Form → ℕ → List ℕ
 least f zero = []
-least f (suc m) = replicate (f .width) (f .least) ++ least f m
+least f (suc m) = rowOf f (replicate (f .columns) (f .least)) ++ least f m
 
 -- m lines with the key of which the first j stand from place i up to place q
 pub record Before (k : List ℕ) (f : Form) (s : List ℕ) (m i q : ℕ) : Type 0 where
   pub numbers : List ℕ
   pub count : ℕ
   pub ok : LinesOk f m numbers
-  pub long : length numbers ≡ m * f .width
+  pub long : length numbers ≡ m * widthOf f
   pub fewer : count ≤ m
   pub stands : Stands s i (joined (take count (linesOf k f m numbers))) q
 
@@ -153,23 +115,23 @@ module _ (k : List ℕ) (f : Form) (s : List ℕ) (o : FormOk f) where
         stands = stands-nil s i;
       }
     where
-      wide : length (replicate (f .width) (f .least)) ≡ f .width
-      wide = length-replicate (f .width) (f .least)
+      wide : length (replicate (f .columns) (f .least)) ≡ f .columns
+      wide = length-replicate (f .columns) (f .least)
 
       ok : (m : ℕ) → LinesOk f m (least f m)
       ok zero = tt
-      ok (suc m) = ok-cons k f (replicate (f .width) (f .least)) wide m (least f m) (numbers-least f (f .width) o)
+      ok (suc m) = ok-cons k f (replicate (f .columns) (f .least)) wide m (least f m) (numbers-least f (f .columns) o)
           (ok m)
 
-      long : (m : ℕ) → length (least f m) ≡ m * f .width
-      long zero = sym (zero-mul (f .width))
-      long (suc m) = long-cons k f (replicate (f .width) (f .least)) wide m (least f m) (long m)
+      long : (m : ℕ) → length (least f m) ≡ m * widthOf f
+      long zero = sym (zero-mul (widthOf f))
+      long (suc m) = long-cons k f (replicate (f .columns) (f .least)) wide m (least f m) (long m)
 
   one-before : (m i j q : ℕ) (us : List ℕ) → LineIs k f s i us j → Before k f s m j q → Before k f s (suc m) i q
   unfolding joined
   one-before m i j q us a b =
       record {
-        numbers = us ++ b .numbers;
+        numbers = rowOf f us ++ b .numbers;
         count = suc (b .count);
         ok = ok-cons k f us (a .long) m (b .numbers) (a .ok) (b .ok);
         long = long-cons k f us (a .long) m (b .numbers) (b .long);
@@ -184,7 +146,7 @@ module _ (k : List ℕ) (f : Form) (s : List ℕ) (o : FormOk f) where
       by-got (lineAt k f s i)
       (λ us j g.
       one-before m i j q us (line-is k f s i us j g)
-      (lines-before m j q (wrong-onto us (linesAt k f s m j) q (sym (after-line k f s m i us j g) ∙ e))))
+      (lines-before m j q (wrong-onto (rowOf f us) (linesAt k f s m j) q (sym (after-line k f s m i us j g) ∙ e))))
       (λ p g.
       let c : i ≡ q = sym (wrong-place _ (at-line k f s m i p g)) ∙ wrong-place (linesAt k f s (suc m) i) e in
       subst (Before k f s (suc m) i) c (none-before (suc m) i))

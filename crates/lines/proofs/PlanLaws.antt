@@ -11,7 +11,7 @@ use Rattle.ground.specs.Stands.{Stands}
 use Rattle.ground.proofs.TestLaws.{by-lt}
 use Rattle.ground.proofs.ListLaws.{stands-nil, stands-append, rest-at}
 use Rattle.lines.specs.declared.form.Form.{Form}
-use Rattle.lines.specs.Lines.{linesOf, joined, linesText}
+use Rattle.lines.specs.Lines.{widthOf, linesOf, joined, linesText}
 use Rattle.lines.specs.Reads.{got, wrong, andThen, linesAt, placeOf}
 use Rattle.lines.specs.Plans.{Plan, stop, lines, follow, planAt, Prints}
 use Rattle.lines.proofs.GotLaws.{by-got, got-not-wrong, got-place, wrong-place, then-got, then-wrong, got-then}
@@ -36,7 +36,7 @@ joined-take (suc j) (x ∷ ls) =
 lines-count : (k : List ℕ) (f : Form) (m : ℕ) (vs : List ℕ) → length (linesOf k f m vs) ≡ m
 unfolding linesOf
 lines-count k f zero vs = refl
-lines-count k f (suc m) vs = ap suc (lines-count k f m (drop (f .width) vs))
+lines-count k f (suc m) vs = ap suc (lines-count k f m (drop (widthOf f) vs))
 
 -- the first j of lines that a run of m begins: they are of that run, or all of it and j - m more
 module _ (k : List ℕ) (f : Form) (m : ℕ) (vs : List ℕ) (rest : List (List ℕ)) (j : ℕ) where

@@ -1,14 +1,13 @@
 -- One step of each writer, and of each counter of bytes. Assumes nothing.
-use mathlib.Core.Bool.{Bool, true, false}
+use mathlib.Core.Bool.{Bool, true, false, _&&_}
 use mathlib.Core.List.{List, [], _∷_, _++_}
-use mathlib.Core.Path.{_≡_, refl, sym, ap, _∙_}
-use Prim.Native.Nat.{ℕ, zero, suc, _+_, _*_, _≤_, _<_}
+use mathlib.Core.Path.{_≡_, sym, ap, _∙_}
+use Prim.Native.Nat.{ℕ, zero, suc, _+_, _-_, _*_, _≤_, _<_}
 use native.Mathlib.Omega.{arith}
 use native.Mathlib.Numerals.{add-one}
 use lib.Dec.{eqb}
 use lib.ListN.{length, getD, set, drop, length-set, length-append, drop-of-length-le}
 use lib.Seq.{sets, length-sets, drop-drop, getD-drop}
-use borrow.Author.Tests.{eq-eqb, ne-eqb}
 use Rattle.ground.specs.Stores.{Put}
 use Rattle.ground.proofs.TestLaws.{by-test}
 use Rattle.ground.proofs.ListLaws.{drop-step, sets-append, put-append}
@@ -17,8 +16,10 @@ use Rattle.decimals.specs.Decimals.{dec}
 use Rattle.decimals.proofs.DecimalLaws.{dec-ten}
 use Rattle.lines.specs.declared.form.Form.{Form}
 use Rattle.lines.specs.Lines.{
+  widthOf,
   nowWord,
   numberText,
+  numbersFrom,
   numbersText,
   oneForm,
   lineText,
@@ -30,6 +31,7 @@ use Rattle.lines.specs.Lines.{
   isEnd,
 }
 use Rattle.lines.specs.Sizes.{mostNumber, mostKey, mostWidth, mostLine, Long}
+use Rattle.lines.specs.Sizes.{Countable, CountableLines, Writable, WritableLines}
 use Rattle.lines.proofs.FillLaws.{line-room}
 
 -- ---- a run of bytes: j of them have been put, up to place i of out
@@ -40,7 +42,7 @@ pub record Putting (bytes out₀ : List ℕ) (at : ℕ) (out : List ℕ) (i j : 
   pub reached : j ≤ length bytes
   pub long : length out ≡ length out₀
 
-module _ (bytes out₀ : List ℕ) (at : ℕ) (out : List ℕ) (i j : ℕ) (p : Putting bytes out₀ at out i j) where
+module _ {bytes out₀ : List ℕ} {at : ℕ} {out : List ℕ} {i j : ℕ} (p : Putting bytes out₀ at out i j) where
   pub put-turn : j < length bytes → Putting bytes out₀ at (set out i (getD bytes j 0)) (i + 1) (j + 1)
   put-turn h =
       let c = getD bytes j 0 in
@@ -57,30 +59,22 @@ module _ (bytes out₀ : List ℕ) (at : ℕ) (out : List ℕ) (i j : ℕ) (p : 
 
 -- ---- a number
 
-pub number-word : (last : Bool) (v : ℕ) → last ≡ true → v ≡ Now → numberText last v ≡ nowWord
+pub number-word : (last : Bool) (v : ℕ) → (last && eqb v Now) ≡ true → numberText last v ≡ nowWord
 unfolding numberText
-number-word last v e q = rw (e, eq-eqb v Now q)
+number-word last v e = rw e
 
-pub number-finite : (last : Bool) (v : ℕ) → (v ≡ Now → ⊥) → numberText last v ≡ dec v
+pub number-finite : (last : Bool) (v : ℕ) → (last && eqb v Now) ≡ false → numberText last v ≡ dec v
 unfolding numberText
-number-finite false v h = refl
-number-finite true v h = rw (ne-eqb v Now h)
-
-pub number-inner : (last : Bool) (v : ℕ) → last ≡ false → numberText last v ≡ dec v
-unfolding numberText
-number-inner last v e = rw e
+number-finite last v e = rw e
 
 -- ---- the numbers of a line: `left` are to be put, from index j of the table on, to place i of out: that makes of
 -- out what was to be made of out₀
-
-abbrev pub numbersFrom : Form → List ℕ → ℕ → List ℕ
-numbersFrom f table base = numbersText f (f .width) (drop base table)
 
 pub record Writing (f : Form) (table : List ℕ) (base : ℕ) (out₀ : List ℕ) (at left j : ℕ) (out : List ℕ) (i : ℕ) :
     Type 0 where
   pub held : sets out₀ at (numbersFrom f table base) ≡ sets out i (numbersText f left (drop j table))
   pub place : at + length (numbersFrom f table base) ≡ i + length (numbersText f left (drop j table))
-  pub room : j + left ≡ base + f .width
+  pub room : j + left ≡ base + f .columns
   pub long : length out ≡ length out₀
 
 module _ (f : Form) (table : List ℕ) (left w j : ℕ) (b : Bool) (more : left ≡ suc w) (e : b ≡ isEnd f w)
@@ -98,33 +92,46 @@ module _ (f : Form) (table : List ℕ) (left w j : ℕ) (b : Bool) (more : left 
   pub text-step-length : length (numbersText f left (drop j table)) ≡ length next + suc (length rest)
   text-step-length = ap length text-step ∙ length-append next (mark w ∷ rest)
 
-  module _ (base : ℕ) (out₀ : List ℕ) (at : ℕ) (out : List ℕ) (i : ℕ) (p : Writing f table base out₀ at left j out i)
-    where
-      -- the number and its mark have room
-      pub write-fits : at + length (numbersFrom f table base) ≤ length out₀ → i + length next < length out
-      write-fits r = omega (arith, text-step-length)
-
-      pub write-turn : (n : ℕ) (out₁ : List ℕ) (c : ℕ) → Put out i next out₁ n → c ≡ mark w
-          → Writing f table base out₀ at w (j + 1) (set out₁ n c) (n + 1)
-      write-turn n out₁ c q ec =
-          record {
-            held = p .held ∙ ap (sets out i) text-step ∙ sets-append out i next (mark w ∷ rest)
-                ∙ rw (q .after, q .held, ec, add-one (i + length next));
-            place = omega (arith, text-step-length);
-            room = omega arith;
-            long = length-set out₁ n c ∙ ap length (q .held) ∙ length-sets out i next ∙ p .long;
-          }
-
 no-numbers : (f : Form) (left : ℕ) (vs : List ℕ) → left ≤ 0 → numbersText f left vs ≡ []
 unfolding numbersText
 no-numbers f left vs z = let q : left ≡ 0 = omega arith in rw q
 
-pub write-done : (f : Form) (table : List ℕ) (base : ℕ) (out₀ : List ℕ) (at left j : ℕ) (out : List ℕ) (i : ℕ)
-    → left ≤ 0
-    → Writing f table base out₀ at left j out i → Put out₀ at (numbersFrom f table base) out i
-write-done f table base out₀ at left j out i z p =
-    let e = no-numbers f left (drop j table) z in
-    record { held = sym (p .held ∙ ap (sets out i) e); after = omega (arith, ap length e) }
+module _ {f : Form} {table : List ℕ} {base : ℕ} {out₀ : List ℕ} {at left j : ℕ} {out : List ℕ} {i : ℕ}
+    (p : Writing f table base out₀ at left j out i) where
+  module _ (some : 0 < left) (r : Writable f table base out₀ at) where
+    pub write-inside : j < length table
+    write-inside = omega (arith, r .row, p .room)
+
+    module _ {b : Bool} (e : b ≡ isEnd f (left - 1)) where
+      abbrev thisNumber : List ℕ
+      thisNumber = numberText b (getD table j 0)
+
+      abbrev laterNumbers : List ℕ
+      laterNumbers = numbersText f (left - 1) (drop (j + 1) table)
+
+      abbrev numberStep : length (numbersText f left (drop j table)) ≡ length thisNumber + suc (length laterNumbers)
+      numberStep = text-step-length f table left (left - 1) j b (omega arith) e write-inside
+
+      -- the number and its mark have room
+      pub write-fits : i + length thisNumber < length out
+      write-fits = omega (arith, numberStep, r .room, p .place, p .long)
+
+      pub write-turn : {n : ℕ} {out₁ : List ℕ} {c : ℕ} → Put out i thisNumber out₁ n → c ≡ mark (left - 1)
+          → Writing f table base out₀ at (left - 1) (j + 1) (set out₁ n c) (n + 1)
+      write-turn {n} {out₁} {c} q ec =
+          record {
+            held = p .held ∙ ap (sets out i) (text-step f table left (left - 1) j b (omega arith) e write-inside)
+                ∙ sets-append out i thisNumber (mark (left - 1) ∷ laterNumbers)
+                ∙ rw (q .after, q .held, ec, add-one (i + length thisNumber));
+            place = omega (arith, numberStep);
+            room = omega arith;
+            long = length-set out₁ n c ∙ ap length (q .held) ∙ length-sets out i thisNumber ∙ p .long;
+          }
+
+  pub write-done : left ≤ 0 → Put out₀ at (numbersFrom f table base) out i
+  write-done z =
+      let e = no-numbers f left (drop j table) z in
+      record { held = sym (p .held ∙ ap (sets out i) e); after = omega (arith, ap length e) }
 
 -- ---- lines: `left` are to be put, from index j of the table on, to place i of out: that makes of out what was to be
 -- made of out₀
@@ -133,7 +140,7 @@ pub record WritingLines (k : List ℕ) (f : Form) (table : List ℕ) (m : ℕ) (
     (out : List ℕ) (i : ℕ) : Type 0 where
   pub held : sets out₀ at (linesText k f m table) ≡ sets out i (linesText k f left (drop j table))
   pub place : at + length (linesText k f m table) ≡ i + length (linesText k f left (drop j table))
-  pub room : j + left * f .width ≡ m * f .width
+  pub room : j + left * widthOf f ≡ m * widthOf f
   pub long : length out ≡ length out₀
 
 module _ (k : List ℕ) (f : Form) (table : List ℕ) (left w j : ℕ) (more : left ≡ suc w) where
@@ -141,58 +148,72 @@ module _ (k : List ℕ) (f : Form) (table : List ℕ) (left w j : ℕ) (more : l
   line = numbersFrom f table j
 
   abbrev others : List ℕ
-  others = linesText k f w (drop (j + f .width) table)
+  others = linesText k f w (drop (j + widthOf f) table)
 
   lines-step : linesText k f left (drop j table) ≡ (k ++ line) ++ others
   unfolding linesOf joined
-  lines-step = rw (more, drop-drop (f .width) j table)
+  lines-step = rw (more, drop-drop (widthOf f) j table)
 
   pub lines-step-length : length (linesText k f left (drop j table)) ≡ length k + length line + length others
   lines-step-length =
       ap length lines-step ∙ length-append (k ++ line) others
       ∙ ap (λ (n : ℕ). n + length others) (length-append k line)
 
-  module _ (m : ℕ) (out₀ : List ℕ) (at : ℕ) (out : List ℕ) (i : ℕ) (p : WritingLines k f table m out₀ at left j out i)
-    where
-      -- the line has its numbers and its room
-      pub line-fits : m * f .width ≤ length table → at + length (linesText k f m table) ≤ length out₀
-          → (j + f .width ≤ length table) × (i + length k + length line ≤ length out)
-      line-fits t r = (
-        omega (arith, line-room f left w (m * f .width) j more (p .room)),
-        omega
-            (arith, lines-step-length),
-      )
-
-      pub write-line : (n₁ : ℕ) (out₁ : List ℕ) (n₂ : ℕ) (out₂ : List ℕ) → Put out i k out₁ n₁
-          → Put out₁ n₁ line out₂ n₂
-          → WritingLines k f table m out₀ at w (j + f .width) out₂ n₂
-      write-line n₁ out₁ n₂ out₂ a b =
-          let both = put-append a b in
-          record {
-            held = p .held ∙ ap (sets out i) lines-step ∙ sets-append out i (k ++ line) others
-                ∙ rw (both .held, both .after);
-            place = omega (arith, lines-step-length, both .after, length-append k line);
-            room = line-room f left w (m * f .width) j more (p .room);
-            long = ap length (both .held) ∙ length-sets out i (k ++ line) ∙ p .long;
-          }
-
 no-lines : (k : List ℕ) (f : Form) (left : ℕ) (vs : List ℕ) → left ≤ 0 → linesText k f left vs ≡ []
 unfolding linesOf joined
 no-lines k f left vs z = let q : left ≡ 0 = omega arith in rw q
 
-pub lines-done : (k : List ℕ) (f : Form) (table : List ℕ) (m : ℕ) (out₀ : List ℕ) (at left j : ℕ) (out : List ℕ)
-    (i : ℕ) → left ≤ 0
-    → WritingLines k f table m out₀ at left j out i → Put out₀ at (linesText k f m table) out i
-lines-done k f table m out₀ at left j out i z p =
-    let e = no-lines k f left (drop j table) z in
-    record { held = sym (p .held ∙ ap (sets out i) e); after = omega (arith, ap length e) }
+module _ {k : List ℕ} {f : Form} {table : List ℕ} {m : ℕ} {out₀ : List ℕ} {at left j : ℕ} {out : List ℕ} {i : ℕ}
+    (p : WritingLines k f table m out₀ at left j out i) where
+  module _ (some : 0 < left) (r : WritableLines k f table m out₀ at) where
+    abbrev thisLine : List ℕ
+    thisLine = numbersFrom f table j
+
+    abbrev laterLines : List ℕ
+    laterLines = linesText k f (left - 1) (drop (j + widthOf f) table)
+
+    abbrev lineStep : length (linesText k f left (drop j table)) ≡ length k + length thisLine + length laterLines
+    lineStep = lines-step-length k f table left (left - 1) j (omega arith)
+
+    pub write-row : j + widthOf f ≤ length table
+    write-row = omega (arith, line-room (widthOf f) left (m * widthOf f) j some (p .room), r .rows)
+
+    -- the line has its room
+    pub line-fits : i + length k + length thisLine ≤ length out
+    line-fits = omega (arith, lineStep, r .room, p .place, p .long)
+
+    pub write-ready : {n : ℕ} {out₁ : List ℕ} → Put out i k out₁ n → Writable f table j out₁ n
+    write-ready {n} {out₁} a =
+        record {
+          row = omega (arith, write-row);
+          room = omega (arith, line-fits, a .after, ap length (a .held) ∙ length-sets out i k);
+        }
+
+    pub write-line : {n₁ : ℕ} {out₁ : List ℕ} {n₂ : ℕ} {out₂ : List ℕ} → Put out i k out₁ n₁
+        → Put out₁ n₁ thisLine out₂ n₂
+        → WritingLines k f table m out₀ at (left - 1) (j + widthOf f) out₂ n₂
+    write-line a b =
+        let both = put-append a b in
+        record {
+          held = p .held ∙ ap (sets out i) (lines-step k f table left (left - 1) j (omega arith))
+              ∙ sets-append out i (k ++ thisLine) laterLines
+              ∙ rw (both .held, both .after);
+          place = omega (arith, lineStep, both .after, length-append k thisLine);
+          room = line-room (widthOf f) left (m * widthOf f) j some (p .room);
+          long = ap length (both .held) ∙ length-sets out i (k ++ thisLine) ∙ p .long;
+        }
+
+  pub lines-done : left ≤ 0 → Put out₀ at (linesText k f m table) out i
+  lines-done z =
+      let e = no-lines k f left (drop j table) z in
+      record { held = sym (p .held ∙ ap (sets out i) e); after = omega (arith, ap length e) }
 
 -- ---- lengths
 
 pub number-short : (last : Bool) (v : ℕ) → v ≤ Now → length (numberText last v) ≤ mostNumber
 unfolding numberText
-number-short false v h = dec-ten v (omega arith)
-number-short true v h = by-test (eqb v Now) (λ t. rw t (omega arith)) (λ t. rw t (dec-ten v (omega arith)))
+number-short last v h =
+    by-test (last && eqb v Now) (λ t. rw t (omega arith)) (λ t. rw t (dec-ten v (omega arith)))
 
 -- so lines of 32-bit numbers are short
 numbers-short : (f : Form) (w : ℕ) (vs : List ℕ) → ((i : ℕ) → getD vs i 0 ≤ Now)
@@ -211,11 +232,11 @@ numbers-short f (suc w) (v ∷ vs) h =
           (mark w ∷ y),
     )
 
-pub line-short : (k : List ℕ) (f : Form) (vs : List ℕ) → length k ≤ mostKey → f .width ≤ mostWidth
+pub line-short : (k : List ℕ) (f : Form) (vs : List ℕ) → length k ≤ mostKey → f .columns ≤ mostWidth
     → ((i : ℕ) → getD vs i 0 ≤ Now)
     → length (lineText k f vs) ≤ mostLine
 line-short k f vs a b h =
-    omega (arith, length-append k (numbersText f (f .width) vs), numbers-short f (f .width) vs h)
+    omega (arith, length-append k (numbersText f (f .columns) vs), numbers-short f (f .columns) vs h)
 
 pub one-short : (k : List ℕ) (v : ℕ) → length k ≤ mostKey → v ≤ Now → length (oneLine k v) ≤ mostLine
 one-short k v a h = line-short k (oneForm 0 Now) (v ∷ []) a (omega arith) small
@@ -224,58 +245,73 @@ one-short k v a h = line-short k (oneForm 0 Now) (v ∷ []) a (omega arith) smal
     small zero = h
     small (suc i) = omega arith
 
-pub lines-short : (k : List ℕ) (f : Form) (m : ℕ) (vs : List ℕ) → length k ≤ mostKey → f .width ≤ mostWidth
+pub lines-short : (k : List ℕ) (f : Form) (m : ℕ) (vs : List ℕ) → length k ≤ mostKey → f .columns ≤ mostWidth
     → ((i : ℕ) → getD vs i 0 ≤ Now)
     → length (linesText k f m vs) ≤ m * mostLine
 unfolding linesOf joined
 lines-short k f zero vs a b h = omega arith
 lines-short k f (suc m) vs a b h =
-    let rest = lines-short k f m (drop (f .width) vs) a b
-    (λ i. rw (getD-drop (f .width) vs i 0) (h (f .width + i))) in
+    let rest = lines-short k f m (drop (widthOf f) vs) a b
+    (λ i. rw (getD-drop (widthOf f) vs i 0) (h (widthOf f + i))) in
     omega (
       arith,
       rest,
       line-short k f vs a b h,
       length-append (lineText k f vs)
-          (linesText k f m (drop (f .width) vs)),
+          (linesText k f m (drop (widthOf f) vs)),
     )
 
 -- `left` numbers are to be counted, from index j of the table on
 pub record Counting (f : Form) (table : List ℕ) (base left j sum : ℕ) : Type 0 where
   pub total : length (numbersFrom f table base) ≡ sum + length (numbersText f left (drop j table))
-  pub room : j + left ≡ base + f .width
-  pub small : sum + left * (mostNumber + 1) ≤ f .width * (mostNumber + 1)
+  pub room : j + left ≡ base + f .columns
+  pub small : sum + left * (mostNumber + 1) ≤ f .columns * (mostNumber + 1)
 
-module _ (f : Form) (table : List ℕ) (base left j sum : ℕ) (p : Counting f table base left j sum) where
-  pub count-turn : (w : ℕ) (b : Bool) (n : ℕ) → left ≡ suc w → b ≡ isEnd f w → j < length table
+module _ {f : Form} {table : List ℕ} {base left j sum : ℕ} (p : Counting f table base left j sum) where
+  pub count-turn : {b : Bool} {n : ℕ} → 0 < left → Countable f table base → b ≡ isEnd f (left - 1)
       → Long (numberText b (getD table j 0)) mostNumber n
-      → Counting f table base w (j + 1) (sum + (n + 1))
-  count-turn w b n more e h l =
+      → Counting f table base (left - 1) (j + 1) (sum + (n + 1))
+  count-turn {b} {n} some r e l =
       record {
-        total = omega (arith, text-step-length f table left w j b more e h);
+        total = omega (
+          arith,
+          text-step-length f table left (left - 1) j b (omega arith) e (omega (arith, r .row, p .room)),
+        );
         room = omega arith;
-        small = omega
-            arith;
+        small = omega arith;
       }
 
-  pub count-done : left ≤ 0 → Long (numbersFrom f table base) (f .width * (mostNumber + 1)) sum
+  pub count-done : left ≤ 0 → Long (numbersFrom f table base) (f .columns * (mostNumber + 1)) sum
   count-done z = record { count = omega (arith, ap length (no-numbers f left (drop j table) z)); small = omega arith }
 
 -- `left` lines are to be counted, from index j of the table on
 pub record CountingLines (k : List ℕ) (f : Form) (table : List ℕ) (m left j sum : ℕ) : Type 0 where
   pub total : length (linesText k f m table) ≡ sum + length (linesText k f left (drop j table))
-  pub room : j + left * f .width ≡ m * f .width
+  pub room : j + left * widthOf f ≡ m * widthOf f
   pub small : sum + left * mostLine ≤ m * mostLine
 
-module _ (k : List ℕ) (f : Form) (table : List ℕ) (m left j sum : ℕ) (p : CountingLines k f table m left j sum) where
-  pub count-line : (w n : ℕ) → left ≡ suc w → n ≡ length (numbersFrom f table j) → length k + n ≤ mostLine
-      → CountingLines k f table m w (j + f .width) (sum + (length k + n))
-  count-line w n more en small =
-      record {
-        total = omega (arith, lines-step-length k f table left w j more);
-        room = line-room f left w (m * f .width) j more (p .room);
-        small = omega arith;
-      }
+module _ {k : List ℕ} {f : Form} {table : List ℕ} {m left j sum : ℕ} (p : CountingLines k f table m left j sum) where
+  module _ (some : 0 < left) (r : CountableLines k f table m) where
+    pub count-row : j + widthOf f ≤ length table
+    count-row = omega (arith, line-room (widthOf f) left (m * widthOf f) j some (p .room), r .rows)
+
+    pub count-ready : Countable f table j
+    count-ready = record { row = omega (arith, count-row); narrow = r .narrow }
+
+    module _ {n : ℕ} (l : Long (numbersFrom f table j) (f .columns * (mostNumber + 1)) n) where
+      pub count-small : length k + n ≤ mostLine
+      count-small = omega (arith, l .small, r .narrow, r .key)
+
+      pub count-fits : sum + (length k + n) ≤ m * mostLine
+      count-fits = omega (arith, count-small, p .small)
+
+      pub count-line : CountingLines k f table m (left - 1) (j + widthOf f) (sum + (length k + n))
+      count-line =
+          record {
+            total = omega (arith, l .count, lines-step-length k f table left (left - 1) j (omega arith));
+            room = line-room (widthOf f) left (m * widthOf f) j some (p .room);
+            small = omega (arith, count-small, p .small);
+          }
 
   pub count-lines-done : left ≤ 0 → Long (linesText k f m table) (m * mostLine) sum
   count-lines-done z =

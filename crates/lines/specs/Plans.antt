@@ -10,7 +10,7 @@ use mathlib.Core.List.{List, [], _++_}
 use Prim.Native.Nat.{ℕ, _*_}
 use lib.ListN.{length}
 use Rattle.lines.specs.declared.form.Form.{Form}
-use Rattle.lines.specs.Lines.{linesOf, LinesOk}
+use Rattle.lines.specs.Lines.{widthOf, linesOf, LinesOk}
 use Rattle.lines.specs.Reads.{Got, got, andThen, linesAt}
 
 pub data Plan (A : Type 0) : Type 0 where
@@ -31,6 +31,6 @@ Prints (lines k f m next) a ls =
     (vs : List ℕ)
     × (rest : List (List ℕ))
     × LinesOk f m vs
-    × (length vs ≡ m * f .width)
+    × (length vs ≡ m * widthOf f)
     × Prints (next vs) a rest
     × (ls ≡ linesOf k f m vs ++ rest)

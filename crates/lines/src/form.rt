@@ -1,11 +1,12 @@
 // The form of a line: its numbers, without its key.
 ghost use mathlib.Core.Path.{_≡_};
-ghost use Rattle.lines.specs.Lines.{oneForm, rowForm, isEnd, mark};
-use tables::label::NOW;
+ghost use Rattle.lines.specs.Lines.{oneForm, isEnd, mark};
 
-// How many numbers the line has, whether the last is an end, and the bounds of the others.
+// How many numbers the line has, how many more a row of the table has, which lines leave out, whether the last is an
+// end, and the bounds of the others.
 pub struct Form {
-    pub width: usize,
+    pub columns: usize,
+    pub hidden: usize,
     pub ended: bool,
     pub least: u32,
     pub most: u32,
@@ -15,21 +16,11 @@ pub fn one_form(least: u32, most: u32) -> Form
     ensures { λ r. ⌜ r ≡ oneForm least most ⌝ }
 {
     Form {
-        width: 1,
+        columns: 1,
+        hidden: 0,
         ended: false,
         least,
         most,
-    }
-}
-
-pub fn row_form(width: usize, ended: bool) -> Form
-    ensures { λ r. ⌜ r ≡ rowForm width ended ⌝ }
-{
-    Form {
-        width,
-        ended,
-        least: 0,
-        most: NOW,
     }
 }
 

@@ -1,11 +1,10 @@
 // Writing lines, and how many bytes they have: a writer counts first, so that a refusal writes nothing.
-ghost use mathlib.Core.Path.{_≡_};
-ghost use mathlib.Core.List.{[], _∷_};
 ghost use Prim.Native.Nat.{_+_, _*_, _≤_};
-ghost use lib.ListN.{length, drop};
+ghost use lib.ListN.{length};
 ghost use Rattle.ground.specs.Stores.{Put};
-ghost use Rattle.lines.specs.Lines.{numberText, numbersText, oneLine, linesText};
-ghost use Rattle.lines.specs.Sizes.{Long, mostKey, mostWidth, mostLines, mostNumber, mostLine};
+ghost use Rattle.lines.specs.Lines.{numberText, numbersFrom, oneLine, linesText};
+ghost use Rattle.lines.specs.Sizes.{Long, mostKey, mostNumber, mostLine};
+ghost use Rattle.lines.specs.Sizes.{Countable, CountableLines, Writable, WritableLines};
 use super::form::Form;
 use super::form::is_end;
 use super::form::mark_after;
@@ -15,7 +14,7 @@ use decimals::write_decimal;
 use tables::label::NOW;
 
 // Puts the bytes at place at, and returns the place after them.
-fn put(out: &mut [u8], at: usize, bytes: &[u8]) -> usize
+pub fn put(out: &mut [u8], at: usize, bytes: &[u8]) -> usize
     requires { ⌜ at + length (now bytes) ≤ length (now out) ⌝ }
     ensures { λ r. ⌜ Put (now (out .entry)) at (now (bytes .entry)) (now (out .exit)) r ⌝ }
 {
@@ -34,24 +33,19 @@ fn write_number(out: &mut [u8], at: usize, v: u32, last: bool) -> usize
     requires { ⌜ at + length (numberText last v) ≤ length (now out) ⌝ }
     ensures { λ r. ⌜ Put (now (out .entry)) at (numberText last v) (now (out .exit)) r ⌝ }
 {
-    if last {
-        if v == NOW {
-            return put(out, at, b"now");
-        }
-        return write_decimal(out, at, v);
+    if last & (v == NOW) {
+        return put(out, at, b"now");
     }
     write_decimal(out, at, v)
 }
 
 // Puts the numbers of a line of form f at place at: those of table from index base on.
 fn write_numbers(out: &mut [u8], at: usize, f: Form, table: &[u32], base: usize) -> usize
-    requires { ⌜ (base + f .width ≤ length (now table))
-        × (at + length (numbersText f (f .width) (drop base (now table))) ≤ length (now out)) ⌝ }
-    ensures { λ r. ⌜ Put (now (out .entry)) at (numbersText f (f .width) (drop base (now (table .entry))))
-        (now (out .exit)) r ⌝ }
+    requires { ⌜ Writable f (now table) base (now out) at ⌝ }
+    ensures { λ r. ⌜ Put (now (out .entry)) at (numbersFrom f (now (table .entry)) base) (now (out .exit)) r ⌝ }
 {
     let mut i = at;
-    let mut left = f.width;
+    let mut left = f.columns;
     let mut j = base;
     while 0 < left {
         left -= 1;
@@ -64,9 +58,8 @@ fn write_numbers(out: &mut [u8], at: usize, f: Form, table: &[u32], base: usize)
 }
 
 // Puts m lines with the key at place at, of the numbers of table.
-pub fn write_lines(out: &mut [u8], at: usize, key: &[u8], f: Form, table: &[u32], m: usize) -> usize
-    requires { ⌜ (m * f .width ≤ length (now table))
-        × (at + length (linesText (now key) f m (now table)) ≤ length (now out)) ⌝ }
+pub fn write_lines(out: &mut [u8], at: usize, key: &[u8], f: Form, table: &[u32], m: u32) -> usize
+    requires { ⌜ WritableLines (now key) f (now table) m (now out) at ⌝ }
     ensures { λ r. ⌜ Put (now (out .entry)) at (linesText (now (key .entry)) f m (now (table .entry)))
         (now (out .exit)) r ⌝ }
 {
@@ -76,7 +69,7 @@ pub fn write_lines(out: &mut [u8], at: usize, key: &[u8], f: Form, table: &[u32]
     while 0 < left {
         i = put(out, i, key);
         i = write_numbers(out, i, f, table, j);
-        j += f.width;
+        j += f.columns + f.hidden;
         left -= 1;
     }
     i
@@ -96,23 +89,19 @@ pub fn write_one(out: &mut [u8], at: usize, key: &[u8], v: u32) -> usize
 fn number_len(v: u32, last: bool) -> usize
     ensures { λ r. ⌜ Long (numberText last v) mostNumber r ⌝ }
 {
-    if last {
-        if v == NOW {
-            return 3;
-        }
-        return decimal_width(v);
+    if last & (v == NOW) {
+        return 3;
     }
     decimal_width(v)
 }
 
 // How many bytes the numbers of a line have, with their marks.
 fn numbers_len(f: Form, table: &[u32], base: usize) -> usize
-    requires { ⌜ (base + f .width ≤ length (now table)) × (f .width ≤ mostWidth) ⌝ }
-    ensures { λ r. ⌜ Long (numbersText f (f .width) (drop base (now (table .entry)))) (f .width * (mostNumber + 1))
-        r ⌝ }
+    requires { ⌜ Countable f (now table) base ⌝ }
+    ensures { λ r. ⌜ Long (numbersFrom f (now (table .entry)) base) (f .columns * (mostNumber + 1)) r ⌝ }
 {
     let mut sum: usize = 0;
-    let mut left = f.width;
+    let mut left = f.columns;
     let mut j = base;
     while 0 < left {
         left -= 1;
@@ -123,9 +112,8 @@ fn numbers_len(f: Form, table: &[u32], base: usize) -> usize
 }
 
 // How many bytes m lines with the key have.
-pub fn lines_len(key: &[u8], f: Form, table: &[u32], m: usize) -> usize
-    requires { ⌜ (m * f .width ≤ length (now table)) × (f .width ≤ mostWidth) × (length (now key) ≤ mostKey)
-        × (m ≤ mostLines) ⌝ }
+pub fn lines_len(key: &[u8], f: Form, table: &[u32], m: u32) -> usize
+    requires { ⌜ CountableLines (now key) f (now table) m ⌝ }
     ensures { λ r. ⌜ Long (linesText (now (key .entry)) f m (now (table .entry))) (m * mostLine) r ⌝ }
 {
     let mut sum: usize = 0;
@@ -133,7 +121,7 @@ pub fn lines_len(key: &[u8], f: Form, table: &[u32], m: usize) -> usize
     let mut j = 0;
     while 0 < left {
         sum += key.len() + numbers_len(f, table, j);
-        j += f.width;
+        j += f.columns + f.hidden;
         left -= 1;
     }
     sum

@@ -25,19 +25,24 @@ grows-requires c κs = search needs
 add-read-more : tie.Need-add-read-more
 add-read-more c = search needs
 
-taken : (c : tie.Then3) → Grows (c .before .before .before .before .before .before .args .hi) 0
-    (getD (now (c .before .before .before .before .before .before .args .text))
-    (c .before .before .before .before .before .before .args .at) 0)
-taken c = grows-true _ _ _ (sym (c .before .grows .ensures) ∙ c .if3 .taken)
+-- the place before the first byte, and what is known of that byte
+abbrev start : tie.After-grows → tie.Start
+start c = c .before .before .before .before .before
+
+abbrev Digit : tie.After-grows → Type 0
+Digit c = let a = start c .args in Grows (a .hi) 0 (getD (now (a .text)) (a .at) 0)
+
+digit : (c : tie.Then3) → Digit (c .before)
+digit c = grows-true _ _ _ (sym (c .before .grows .ensures) ∙ c .if3 .taken)
 
 sub-read-more : tie.Need-sub-read-more
-sub-read-more c = taken c .low
+sub-read-more c = digit c .low
 
 cast-read-more : tie.Need-cast-read-more
-cast-read-more c = omega (arith, taken c)
+cast-read-more c = omega (arith, digit c)
 
 read-more-requires : tie.Need-read-more-requires
-read-more-requires c κs = omega (arith, taken c)
+read-more-requires c κs = omega (arith, digit c)
 
 returns-3 : tie.Need-returns-3
 returns-3 c =

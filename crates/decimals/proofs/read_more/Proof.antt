@@ -1,22 +1,28 @@
-use mathlib.Core.Path.{_≡_, refl, sym, _∙_}
-use Prim.Native.Nat.{_-_, _≤_}
+use mathlib.Core.Path.{refl, sym, _∙_}
+use Prim.Native.Nat.{_-_}
 use native.Mathlib.Omega.{arith}
 use borrow.Author.Needs.{needs}
 use denote.Ref.{now}
-use lib.ListN.{length, getD, drop}
-use Rattle.decimals.specs.Decimals.{more}
-use Rattle.decimals.proofs.ReadLaws.{Grows, grows-true, more-step, more-stop, more-end}
+use lib.ListN.{length, getD}
+use Rattle.decimals.proofs.ReadLaws.{Grows, grows-true, Reading, more-turn, more-stop, more-end}
 use Rattle.decimals.proofs.read_more.Statement.{statement}
 use Rattle.decimals.proofs.read_more.Tie as tie
 
 abbrev Inv-loop : tie.InvT-loop
-Inv-loop text at hi first v₀ i₀ v i = (more hi first at (drop at text) ≡ more hi v i (drop i text)) × (v ≤ hi)
+Inv-loop text at hi first v₀ i₀ v i = Reading hi first text at v i
 
 abbrev μ-loop : tie.MeasureT-loop
 μ-loop text at hi first v₀ i₀ v i = length text - i
 
+-- the places
+abbrev start : tie.At-loop Inv-loop μ-loop → tie.Start Inv-loop μ-loop
+start c = c .before .before
+
+abbrev loop : tie.After-grows Inv-loop μ-loop → tie.At-loop Inv-loop μ-loop
+loop c = c .before .before .before
+
 loop-holds : tie.Need-loop-holds Inv-loop μ-loop
-loop-holds c = (refl, omega arith)
+loop-holds c = record { rest = refl; small = omega arith }
 
 shared-slice-read-c : tie.Need-shared-slice-read-c Inv-loop μ-loop
 shared-slice-read-c c = omega arith
@@ -24,23 +30,26 @@ shared-slice-read-c c = omega arith
 grows-requires : tie.Need-grows-requires Inv-loop μ-loop
 grows-requires c κs = search needs
 
-taken : (c : tie.Then1 Inv-loop μ-loop)
-    → Grows (c .before .before .before .before .before .before .args .hi) (c .before .before .before .before .loop .v)
-    (getD (now (c .before .before .before .before .before .before .args .text))
-    (c .before .before .before .before .loop .i) 0)
-taken c = grows-true _ _ _ (sym (c .before .grows .ensures) ∙ c .if1 .taken)
+abbrev Digit : tie.After-grows Inv-loop μ-loop → Type 0
+Digit c =
+    let a = start (loop c) .args in
+    let l = loop c .loop in
+    Grows (a .hi) (l .v) (getD (now (a .text)) (l .i) 0)
+
+digit : (c : tie.Then1 Inv-loop μ-loop) → Digit (c .before)
+digit c = grows-true _ _ _ (sym (c .before .grows .ensures) ∙ c .if1 .taken)
 
 mul-v : tie.Need-mul-v Inv-loop μ-loop
-mul-v c = omega (arith, taken c)
+mul-v c = omega (arith, digit c)
 
 sub-v : tie.Need-sub-v Inv-loop μ-loop
-sub-v c = taken c .low
+sub-v c = digit c .low
 
 cast-v : tie.Need-cast-v Inv-loop μ-loop
-cast-v c = omega (arith, taken c)
+cast-v c = omega (arith, digit c)
 
 add-v : tie.Need-add-v Inv-loop μ-loop
-add-v c = omega (arith, taken c)
+add-v c = omega (arith, digit c)
 
 add-i : tie.Need-add-i Inv-loop μ-loop
 add-i c = omega arith
@@ -50,25 +59,13 @@ loop-less c = omega arith
 
 loop-again : tie.Need-loop-again Inv-loop μ-loop
 loop-again c =
-    let l = c .before .before .before .before .loop in
-    let a = c .before .before .before .before .before .before .args in (
-      l .inv .0 ∙ more-step (a .hi) (l .v) (now (a .text)) (l .i) (omega arith)
-          (sym (c .before .grows .ensures) ∙ c .if1 .taken),
-      taken c .small,
-    )
+    more-turn (loop (c .before) .loop .inv) (omega arith) (sym (c .before .grows .ensures) ∙ c .if1 .taken)
 
 returns : tie.Need-returns Inv-loop μ-loop
-returns c =
-    let l = c .before .before .before .before .loop in
-    let a = c .before .before .before .before .before .before .args in
-    sym (l .inv .0 ∙ more-stop (a .hi) (l .v) (now (a .text)) (l .i) (omega arith)
-    (sym (c .before .grows .ensures) ∙ c .if1 .left))
+returns c = more-stop (loop (c .before) .loop .inv) (omega arith) (sym (c .before .grows .ensures) ∙ c .if1 .left)
 
 returns-2 : tie.Need-returns-2 Inv-loop μ-loop
-returns-2 c =
-    let l = c .before .loop in
-    let a = c .before .before .before .args in
-    sym (l .inv .0 ∙ more-end (a .hi) (l .v) (now (a .text)) (l .i) (omega arith))
+returns-2 c = more-end (c .before .loop .inv) (omega arith)
 
 pub read-more-spec : {M : Type 1} → statement M
 read-more-spec =

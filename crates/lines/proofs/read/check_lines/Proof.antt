@@ -1,24 +1,29 @@
-use mathlib.Core.Path.{_≡_, refl, sym, _∙_}
-use Prim.Native.Nat.{suc, _-_, _≤_}
-use native.Mathlib.Omega.{arith}
+use mathlib.Core.Path.{refl, sym, ap, _∙_}
+use Rattle.lines.specs.declared.read.Ended.the-variants.{Wrong}
+use Rattle.lines.proofs.StepLaws.{CheckingLines, line-refused, line-checked, lines-checked}
 use borrow.Author.Needs.{needs}
-use denote.Ref.{now}
-use lib.ListN.{length}
-use Rattle.lines.specs.Reads.{linesAt, endOf}
-use Rattle.lines.proofs.StepLaws.{line-within, lines-wrong, lines-step, lines-none}
-use Rattle.lines.proofs.GotLaws.{end-got}
+use native.Mathlib.Omega.{arith}
 use Rattle.lines.proofs.read.check_lines.Statement.{statement}
 use Rattle.lines.proofs.read.check_lines.Tie as tie
 
 abbrev Inv-loop : tie.InvT-loop
-Inv-loop text at key f m i₀ left₀ i left =
-    (endOf (linesAt key f text m at) ≡ endOf (linesAt key f text left i)) × (i ≤ length text)
+Inv-loop text at key f m i₀ left₀ i left = CheckingLines key f text m at left i
 
 abbrev μ-loop : tie.MeasureT-loop
 μ-loop text at key f m i₀ left₀ i left = left
 
+-- the places: the loop, and where a line was checked
+abbrev loop : tie.After-check-line Inv-loop μ-loop → tie.At-loop Inv-loop μ-loop
+loop c = c .before .before
+
+abbrev line₁ : tie.After-x Inv-loop μ-loop → tie.After-check-line Inv-loop μ-loop
+line₁ c = c .before .before
+
+abbrev line₂ : tie.After-x2 Inv-loop μ-loop → tie.After-check-line Inv-loop μ-loop
+line₂ c = c .before .before
+
 loop-holds : tie.Need-loop-holds Inv-loop μ-loop
-loop-holds c = (refl, c .before .before .pre)
+loop-holds c = record { rest = refl; reached = c .before .before .pre }
 
 check-line-requires : tie.Need-check-line-requires Inv-loop μ-loop
 check-line-requires c κs = search needs
@@ -26,15 +31,15 @@ check-line-requires c κs = search needs
 enum-known-x : tie.Need-enum-known-x Inv-loop μ-loop
 enum-known-x c = search needs
 
+refused-at-requires : tie.Need-refused-at-requires Inv-loop μ-loop
+refused-at-requires c κs = search needs
+
 returns : tie.Need-returns Inv-loop μ-loop
 returns c =
-    let a = c .before .before .before .before .before .before .before .before .args in
-    let l = c .before .before .before .before .before .loop in
-    let x = c .before .x .given in
-    let more : l .left ≡ suc (l .left - 1) = omega (arith, c .before .before .before .before .loop-test .taken) in
-    let r = sym (c .before .before .before .check-line .ensures) ∙ x .1 in
-    sym (l .inv .0 ∙ lines-wrong (now (a .key)) (a .f) (now (a .text)) (l .left) (l .left - 1) (l .i) more (x .0 .0)
-    r)
+    let x = c .before .before in
+    let r = line₁ x in
+    ap Wrong (c .refused-at .ensures)
+    ∙ line-refused (loop r .loop .inv) (omega arith) (sym (r .check-line .ensures) ∙ x .x .given .1)
 
 enum-known-x-2 : tie.Need-enum-known-x-2 Inv-loop μ-loop
 enum-known-x-2 c = search needs
@@ -47,21 +52,12 @@ loop-less c = search needs
 
 loop-again : tie.Need-loop-again Inv-loop μ-loop
 loop-again c =
-    let a = c .before .before .before .before .before .before .before .before .args in
-    let l = c .before .before .before .before .before .loop in
-    let x = c .before .x2 .given in
-    let more : l .left ≡ suc (l .left - 1) = omega (arith, c .before .before .before .before .loop-test .taken) in
-    let r = sym (c .before .before .before .check-line .ensures) ∙ x .1 in (
-      l .inv .0 ∙ lines-step (now (a .key)) (a .f) (now (a .text)) (l .left) (l .left - 1) (l .i) more (x .0 .0) r,
-      line-within (now (a .key)) (a .f) (now (a .text)) (l .i) (x .0 .0) (l .inv .1) r,
-    )
+    let x = c .before in
+    let r = line₂ x in
+    line-checked (loop r .loop .inv) (omega arith) (sym (r .check-line .ensures) ∙ x .x2 .given .1)
 
 returns-2 : tie.Need-returns-2 Inv-loop μ-loop
-returns-2 c =
-    let a = c .before .before .before .before .args in
-    let l = c .before .loop in
-    sym (l .inv .0 ∙ end-got _
-    (lines-none (now (a .key)) (a .f) (now (a .text)) (l .left) (l .i) (c .loop-test .left)))
+returns-2 c = lines-checked (c .before .loop .inv) (c .loop-test .left)
 
 pub check-lines-spec : {M : Type 1} → statement M
 check-lines-spec =
@@ -72,6 +68,7 @@ check-lines-spec =
     loop-holds
     check-line-requires
     enum-known-x
+    refused-at-requires
     returns
     enum-known-x-2
     sub-left

@@ -1,28 +1,31 @@
-use mathlib.Core.Path.{_≡_, refl, sym, ap, _∙_}
-use Prim.Native.Nat.{ℕ, _-_, _≤_, _<_, suc}
-use native.Mathlib.Omega.{arith}
+use mathlib.Core.Path.{refl, sym, _∙_}
+use Rattle.lines.proofs.StepLaws.{Checking, check-missing, check-mark, check-turn, check-done}
 use borrow.Author.Needs.{needs}
-use denote.Ref.{now}
-use lib.ListN.{length, getD}
-use mathlib.Core.List.{List, [], _∷_}
-use Rattle.lines.specs.Lines.{mark}
-use Rattle.lines.specs.Reads.{numbersAt, endOf}
-use Rattle.ground.proofs.ListLaws.{within}
-use Rattle.lines.proofs.LineLaws.{mark-pos}
-use Rattle.lines.proofs.StepLaws.{numbers-missing, numbers-mark, numbers-step, numbers-none}
-use Rattle.lines.proofs.GotLaws.{onto-end, end-got, end-wrong}
+use native.Mathlib.Omega.{arith}
 use Rattle.lines.proofs.read.check_numbers.Statement.{statement}
 use Rattle.lines.proofs.read.check_numbers.Tie as tie
 
 abbrev Inv-loop : tie.InvT-loop
-Inv-loop text at from f i₀ left₀ i left =
-    (endOf (numbersAt f text at (f .width) from) ≡ endOf (numbersAt f text at left i)) × (i ≤ length text)
+Inv-loop text from f i₀ left₀ i left = Checking f text from left i
 
 abbrev μ-loop : tie.MeasureT-loop
-μ-loop text at from f i₀ left₀ i left = left
+μ-loop text from f i₀ left₀ i left = left
+
+-- the places: the loop, and where a number was read
+abbrev loop : tie.After-read-number Inv-loop μ-loop → tie.At-loop Inv-loop μ-loop
+loop c = c .before .before .before
+
+abbrev read₁ : tie.After-known-told Inv-loop μ-loop → tie.After-read-number Inv-loop μ-loop
+read₁ c = c .before .before .before
+
+abbrev number₂ : tie.After-mark-after Inv-loop μ-loop → tie.After-x2 Inv-loop μ-loop
+number₂ c = c .before .before .before
+
+abbrev read₂ : tie.After-mark-after Inv-loop μ-loop → tie.After-read-number Inv-loop μ-loop
+read₂ c = number₂ c .before .before
 
 loop-holds : tie.Need-loop-holds Inv-loop μ-loop
-loop-holds c = (refl, c .before .pre)
+loop-holds c = record { rest = refl; reached = c .before .pre }
 
 sub-left : tie.Need-sub-left Inv-loop μ-loop
 sub-left c = search needs
@@ -33,22 +36,17 @@ is-end-requires c κs = search needs
 read-number-requires : tie.Need-read-number-requires Inv-loop μ-loop
 read-number-requires c κs = search needs
 
-enum-told : tie.Need-enum-told Inv-loop μ-loop
-enum-told c = search needs
+enum-known-x : tie.Need-enum-known-x Inv-loop μ-loop
+enum-known-x c = search needs
 
 returns : tie.Need-returns Inv-loop μ-loop
 returns c =
-    let a = c .before .before .before .before .before .before .before .args in
-    let l = c .before .before .before .before .before .loop in
-    let more : l .left ≡ suc (l .left - 1) = omega (arith, c .before .before .before .before .loop-test .taken) in
-    let end = c .before .before .before .is-end in
-    let r = sym (c .before .before .read-number .ensures) ∙ c .enum-told .given .1 in
-    sym (l .inv .0 ∙ end-wrong _
-    (numbers-missing (a .f) (now (a .text)) (a .at) (l .left) (l .left - 1) (l .i) (end .result) more
-    (end .ensures) r))
+    let r = read₁ c in
+    check-missing (loop r .loop .inv) (omega arith) (r .before .is-end .ensures)
+    (sym (r .read-number .ensures) ∙ c .before .x .given .1)
 
-enum-known-x : tie.Need-enum-known-x Inv-loop μ-loop
-enum-known-x c = search needs
+enum-known-x-2 : tie.Need-enum-known-x-2 Inv-loop μ-loop
+enum-known-x-2 c = search needs
 
 byte-at-requires : tie.Need-byte-at-requires Inv-loop μ-loop
 byte-at-requires c κs = search needs
@@ -58,59 +56,29 @@ mark-after-requires c κs = search needs
 
 returns-2 : tie.Need-returns-2 Inv-loop μ-loop
 returns-2 c =
-    let a = c .before .before .before .before .before .before .before .before .before .before .before .args in
-    let l = c .before .before .before .before .before .before .before .before .before .loop in
-    let x = c .before .before .before .before .x .given in
-    let more : l .left ≡ suc (l .left - 1) = omega
-    (arith, c .before .before .before .before .before .before .before .before .loop-test .taken) in
-    let r = sym (c .before .before .before .before .before .before .read-number .ensures) ∙ x .1 in
-    let end = c .before .before .before .before .before .before .before .is-end in
-    let other : getD (now (a .text)) (x .0 .1 .0) 0 ≡ mark (l .left - 1)
-    → ⊥ = λ q. c .if1 .taken (c .before .before .byte-at .ensures ∙ q ∙ sym (c .before .mark-after .ensures)) in
-    sym (l .inv .0
-    ∙ end-wrong _
-    (numbers-mark (a .f) (now (a .text)) (a .at) (l .left) (l .left - 1) (l .i) (end .result) more (end .ensures)
-    (x .0 .0) (x .0 .1 .0) r other))
+    let r = read₂ (c .before) in
+    check-mark (loop r .loop .inv) (omega arith) (r .before .is-end .ensures)
+    (sym (r .read-number .ensures) ∙ number₂ (c .before) .x2 .given .1)
+    (λ q. c .if1 .taken (c .before .before .byte-at .ensures ∙ q ∙ sym (c .before .mark-after .ensures)))
 
-abbrev text : tie.Else1 Inv-loop μ-loop → List ℕ
-text c = now (c .before .before .before .before .before .before .before .before .before .before .before .args .text)
-
-abbrev place : tie.Else1 Inv-loop μ-loop → ℕ
-place c = c .before .before .before .before .x .given .0 .1 .0
-
-abbrev left : tie.Else1 Inv-loop μ-loop → ℕ
-left c = c .before .before .before .before .before .before .before .before .before .loop .left - 1
-
-marked : (c : tie.Else1 Inv-loop μ-loop) → getD (text c) (place c) 0 ≡ mark (left c)
-marked c = sym (c .before .before .byte-at .ensures) ∙ c .if1 .left ∙ c .before .mark-after .ensures
-
-inside : (c : tie.Else1 Inv-loop μ-loop) → place c < length (text c)
-inside c = within (text c) (place c) (omega (arith, marked c, mark-pos (left c)))
+turned : tie.Need-loop-again Inv-loop μ-loop
+turned c =
+    let r = read₂ (c .before) in
+    check-turn (loop r .loop .inv) (omega arith) (r .before .is-end .ensures)
+    (sym (r .read-number .ensures) ∙ number₂ (c .before) .x2 .given .1)
+    (sym (c .before .before .byte-at .ensures) ∙ c .if1 .left ∙ c .before .mark-after .ensures)
 
 add-i : tie.Need-add-i Inv-loop μ-loop
-add-i c = omega (arith, inside c)
+add-i c = omega (arith, turned c)
 
 loop-less : tie.Need-loop-less Inv-loop μ-loop
 loop-less c = search needs
 
 loop-again : tie.Need-loop-again Inv-loop μ-loop
-loop-again c =
-    let a = c .before .before .before .before .before .before .before .before .before .before .before .args in
-    let l = c .before .before .before .before .before .before .before .before .before .loop in
-    let x = c .before .before .before .before .x .given in
-    let more : l .left ≡ suc (l .left - 1) = omega
-    (arith, c .before .before .before .before .before .before .before .before .loop-test .taken) in
-    let r = sym (c .before .before .before .before .before .before .read-number .ensures) ∙ x .1 in
-    let end = c .before .before .before .before .before .before .before .is-end in
-    let step = numbers-step (a .f) (now (a .text)) (a .at) (l .left) (l .left - 1) (l .i) (end .result) more
-    (end .ensures) (x .0 .0) (x .0 .1 .0) r (marked c) in
-    (l .inv .0 ∙ ap endOf step ∙ onto-end (x .0 .0 ∷ []) _, omega (arith, inside c))
+loop-again c = turned c
 
 returns-3 : tie.Need-returns-3 Inv-loop μ-loop
-returns-3 c =
-    let a = c .before .before .before .args in
-    let l = c .before .loop in
-    sym (l .inv .0 ∙ end-got _ (numbers-none (a .f) (now (a .text)) (a .at) (l .left) (l .i) (c .loop-test .left)))
+returns-3 c = check-done (c .before .loop .inv) (c .loop-test .left)
 
 pub check-numbers-spec : {M : Type 1} → statement M
 check-numbers-spec =
@@ -122,9 +90,9 @@ check-numbers-spec =
     sub-left
     is-end-requires
     read-number-requires
-    enum-told
-    returns
     enum-known-x
+    returns
+    enum-known-x-2
     byte-at-requires
     mark-after-requires
     returns-2

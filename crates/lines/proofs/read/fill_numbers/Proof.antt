@@ -1,29 +1,31 @@
-use mathlib.Core.Path.{_≡_, refl, sym, _∙_}
-use Prim.Native.Nat.{suc, _-_}
-use native.Mathlib.Omega.{arith}
+use mathlib.Core.Path.{sym, _∙_}
+use Rattle.lines.proofs.FillLaws.{Filling, fill-start, right-number, fill-turn, fill-done}
 use borrow.Author.Needs.{needs}
-use denote.Ref.{now}
-use Rattle.lines.proofs.FillLaws.{Turn, turn, right-number, Filling, fill-turn, fill-done}
+use native.Mathlib.Omega.{arith}
 use Rattle.lines.proofs.read.fill_numbers.Statement.{statement}
 use Rattle.lines.proofs.read.fill_numbers.Tie as tie
 
 abbrev Inv-loop : tie.InvT-loop
-Inv-loop text at from f out₀ base i₀ left₀ j₀ out i left j = Filling f text at from out₀ base left i out j
+Inv-loop text from f out₀ base i₀ left₀ j₀ out i left j = Filling f text from out₀ base left i out j
 
 abbrev μ-loop : tie.MeasureT-loop
-μ-loop text at from f out₀ base i₀ left₀ j₀ out i left j = left
+μ-loop text from f out₀ base i₀ left₀ j₀ out i left j = left
+
+-- the places: the start, the loop, and where a number was read
+abbrev start : tie.At-loop Inv-loop μ-loop → tie.Start Inv-loop μ-loop
+start c = c .before .before .before
+
+abbrev loop : tie.After-read-number Inv-loop μ-loop → tie.At-loop Inv-loop μ-loop
+loop c = c .before .before .before
+
+abbrev read₁ : tie.After-enum-told Inv-loop μ-loop → tie.After-read-number Inv-loop μ-loop
+read₁ c = c .before .before
+
+abbrev read₂ : tie.After-known-told Inv-loop μ-loop → tie.After-read-number Inv-loop μ-loop
+read₂ c = c .before .before .before
 
 loop-holds : tie.Need-loop-holds Inv-loop μ-loop
-loop-holds c =
-    record {
-      place = refl;
-      held = refl;
-      good = c .before .before .pre .2;
-      reached = omega arith;
-      room = refl;
-      long =
-          refl;
-    }
+loop-holds c = fill-start (c .before .before .pre)
 
 sub-left : tie.Need-sub-left Inv-loop μ-loop
 sub-left c = search needs
@@ -38,42 +40,19 @@ enum-told : tie.Need-enum-told Inv-loop μ-loop
 enum-told c = search needs
 
 same-length : tie.Need-same-length Inv-loop μ-loop
-same-length c = c .before .before .before .before .before .loop .inv .long
+same-length c = loop (read₁ c) .loop .inv .long
 
 returns : tie.Need-returns Inv-loop μ-loop
 returns c =
-    let a = c .before .before .before .before .before .before .before .before .args in
-    let l = c .before .before .before .before .before .loop in
-    let more : l .left ≡ suc (l .left - 1) = omega (arith, c .before .before .before .before .loop-test .taken) in
-    let end = c .before .before .before .is-end in
-    let r = sym (c .before .before .read-number .ensures) ∙ c .enum-told .given .1 in
-    absurd (right-number (a .f) (now (a .text)) (a .at) (l .left) (l .left - 1) (l .i) (end .result) more
-    (end .ensures) (l .inv .good) r)
+    let r = read₁ c in
+    absurd (right-number (loop r .loop .inv) (omega arith) (r .before .is-end .ensures)
+    (sym (r .read-number .ensures) ∙ c .enum-told .given .1))
 
 enum-known-x : tie.Need-enum-known-x Inv-loop μ-loop
 enum-known-x c = search needs
 
-abbrev Step : tie.After-known-told Inv-loop μ-loop → Type 0
-Step c =
-    let a = c .before .before .before .before .before .before .before .before .before .args in
-    let l = c .before .before .before .before .before .before .loop in
-    Turn (a .f) (now (a .text)) (a .at) (l .left) (l .left - 1) (l .i) (c .before .x .given .0 .0)
-    (c .before .x .given .0 .1 .0)
-
-step : (c : tie.After-known-told Inv-loop μ-loop) → Step c
-step c =
-    let a = c .before .before .before .before .before .before .before .before .before .args in
-    let l = c .before .before .before .before .before .before .loop in
-    let x = c .before .x .given in
-    let more : l .left ≡ suc (l .left - 1) = omega
-    (arith, c .before .before .before .before .before .loop-test .taken) in
-    let end = c .before .before .before .before .is-end in
-    let r = sym (c .before .before .before .read-number .ensures) ∙ x .1 in
-    turn (a .f) (now (a .text)) (a .at) (l .left) (l .left - 1) (l .i) (end .result) more (end .ensures)
-    (l .inv .good) (x .0 .0) (x .0 .1 .0) r
-
 mul-out : tie.Need-mul-out Inv-loop μ-loop
-mul-out c = omega (arith, c .before .before .before .before .before .before .before .before .before .good)
+mul-out c = omega (arith, start (loop (read₂ c)) .good)
 
 slice-write-out : tie.Need-slice-write-out Inv-loop μ-loop
 slice-write-out c = search needs
@@ -81,32 +60,26 @@ slice-write-out c = search needs
 add-j : tie.Need-add-j Inv-loop μ-loop
 add-j c = search needs
 
+turned : tie.Need-loop-again Inv-loop μ-loop
+turned c =
+    let r = read₂ c in
+    fill-turn (loop r .loop .inv) (omega arith) (r .before .is-end .ensures)
+    (sym (r .read-number .ensures) ∙ c .before .x .given .1)
+
 add-i : tie.Need-add-i Inv-loop μ-loop
-add-i c = omega (arith, step c .inside)
+add-i c = omega (arith, turned c)
 
 loop-less : tie.Need-loop-less Inv-loop μ-loop
 loop-less c = search needs
 
 loop-again : tie.Need-loop-again Inv-loop μ-loop
-loop-again c =
-    let a = c .before .before .before .before .before .before .before .before .before .args in
-    let l = c .before .before .before .before .before .before .loop in
-    let x = c .before .x .given in
-    let more : l .left ≡ suc (l .left - 1) = omega
-    (arith, c .before .before .before .before .before .loop-test .taken) in
-    fill-turn (a .f) (now (a .text)) (a .at) (a .from) (now (a .out)) (a .base) (l .left) (l .i) (l .out) (l .j)
-    (l .inv)
-    (l .left - 1) (x .0 .0) (x .0 .1 .0) more (step c)
+loop-again c = turned c
 
 same-length-2 : tie.Need-same-length-2 Inv-loop μ-loop
 same-length-2 c = c .before .loop .inv .long
 
 returns-2 : tie.Need-returns-2 Inv-loop μ-loop
-returns-2 c =
-    let a = c .before .before .before .before .args in
-    let l = c .before .loop in
-    fill-done (a .f) (now (a .text)) (a .at) (a .from) (now (a .out)) (a .base) (l .left) (l .i) (l .out) (l .j)
-    (l .inv) (c .loop-test .left)
+returns-2 c = fill-done (c .before .loop .inv) (c .loop-test .left)
 
 pub fill-numbers-spec : {M : Type 1} → statement M
 fill-numbers-spec =

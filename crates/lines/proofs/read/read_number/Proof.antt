@@ -1,24 +1,29 @@
 use mathlib.Core.Path.{sym, _∙_}
-use denote.Ref.{now}
-use Rattle.lines.proofs.StepLaws.{number-now, number-end, number-missing, number-ok, number-low}
+use Rattle.lines.proofs.NumberLaws.{begun-within}
+use Rattle.lines.proofs.StepLaws.{number-end, number-now, number-begun, number-missing, number-ok, number-low}
 use borrow.Author.Needs.{needs}
+use native.Mathlib.Omega.{arith}
 use Rattle.lines.proofs.read.read_number.Statement.{statement}
 use Rattle.lines.proofs.read.read_number.Tie as tie
 
-slice-aggregate-has : tie.Need-slice-aggregate-has
-slice-aggregate-has c = search needs
+-- the places: an end, and a number that is none
+abbrev last : tie.After-begun → tie.Then1
+last c = c .before .before
 
-has-requires : tie.Need-has-requires
-has-requires c κs = search needs
+abbrev inner : tie.After-read-decimal2 → tie.Else1
+inner c = c .before
 
-add-t13 : tie.Need-add-t13
-add-t13 c = search needs
+abbrev told₁ : tie.After-x → tie.After-read-decimal2
+told₁ c = c .before .before
 
-returns : tie.Need-returns
-returns c =
-    let a = c .before .before .before .before .before .args in
-    sym (number-now (a .f) (now (a .text)) (a .at) (a .last) (c .before .before .before .if1 .taken)
-    (sym (c .before .has .ensures) ∙ c .if2 .taken))
+abbrev told₂ : tie.After-x2 → tie.After-read-decimal2
+told₂ c = c .before .before
+
+slice-aggregate-begun : tie.Need-slice-aggregate-begun
+slice-aggregate-begun c = search needs
+
+begun-requires : tie.Need-begun-requires
+begun-requires c κs = search needs
 
 sub-read-decimal : tie.Need-sub-read-decimal
 sub-read-decimal c = search needs
@@ -26,58 +31,71 @@ sub-read-decimal c = search needs
 read-decimal-requires : tie.Need-read-decimal-requires
 read-decimal-requires c κs = search needs
 
+returns : tie.Need-returns
+returns c =
+    let b = c .before .before in
+    c .read-decimal .ensures
+    ∙ sym (number-end _ _ _ _ (last b .if1 .taken) _ (b .begun .ensures) (c .before .if2 .taken))
+
+add-after : tie.Need-add-after
+add-after c =
+    let b = c .before in
+    omega (arith, begun-within _ _ _ _ (b .begun .ensures) (last b .before .before .pre))
+
 returns-2 : tie.Need-returns-2
 returns-2 c =
-    let a = c .before .before .before .before .before .before .args in
-    c .read-decimal .ensures
-    ∙ sym (number-end (a .f) (now (a .text)) (a .at) (a .last) (c .before .before .before .before .if1 .taken)
-    (sym (c .before .before .has .ensures) ∙ c .before .if2 .left))
+    let b = c .before .before in
+    sym (number-now _ _ _ _ (last b .if1 .taken) _ (b .begun .ensures) (c .if3 .taken))
+
+returns-3 : tie.Need-returns-3
+returns-3 c =
+    let b = c .before .before in
+    sym (number-begun _ _ _ _ (last b .if1 .taken) _ (b .begun .ensures) (c .before .if2 .left) (c .if3 .left))
 
 read-decimal-requires-2 : tie.Need-read-decimal-requires-2
 read-decimal-requires-2 c κs = search needs
 
-enum-told : tie.Need-enum-told
-enum-told c = search needs
-
 enum-known-x : tie.Need-enum-known-x
 enum-known-x c = search needs
 
-returns-3 : tie.Need-returns-3
-returns-3 c =
-    let a = c .before .before .before .before .before .args in
-    let r = sym (c .before .before .read-decimal2 .ensures) ∙ c .enum-told .given .1 in
-    sym (number-missing (a .f) (now (a .text)) (a .at) (a .last) (c .before .before .before .if1 .left) r)
+enum-known-x-2 : tie.Need-enum-known-x-2
+enum-known-x-2 c = search needs
 
 returns-4 : tie.Need-returns-4
 returns-4 c =
-    let a = c .before .before .before .before .before .before .before .before .args in
-    let x = c .before .before .before .x .given in
-    let first = c .before .before .before .before .before .before .if1 .left in
-    let r = sym (c .before .before .before .before .before .read-decimal2 .ensures) ∙ x .1 in
-    sym (number-ok (a .f) (now (a .text)) (a .at) (a .last) (x .0 .0) (x .0 .1 .0) first r (c .if3 .taken))
+    let x = c .before in
+    let d = told₁ x in
+    sym (number-missing _ _ _ _ (inner d .if1 .left) _ (sym (d .read-decimal2 .ensures) ∙ x .x .given .1))
 
 returns-5 : tie.Need-returns-5
 returns-5 c =
-    let a = c .before .before .before .before .before .before .before .before .args in
-    let x = c .before .before .before .x .given in
-    let first = c .before .before .before .before .before .before .if1 .left in
-    let r = sym (c .before .before .before .before .before .read-decimal2 .ensures) ∙ x .1 in
-    sym (number-low (a .f) (now (a .text)) (a .at) (a .last) (x .0 .0) (x .0 .1 .0) first r (c .if3 .left))
+    let x = c .before .before .before in
+    let d = told₂ x in
+    sym (number-ok _ _ _ _ (inner d .if1 .left) _ _ (sym (d .read-decimal2 .ensures) ∙ x .x2 .given .1)
+    (c .if4 .taken))
+
+returns-6 : tie.Need-returns-6
+returns-6 c =
+    let x = c .before .before .before in
+    let d = told₂ x in
+    sym (number-low _ _ _ _ (inner d .if1 .left) _ _ (sym (d .read-decimal2 .ensures) ∙ x .x2 .given .1)
+    (c .if4 .left))
 
 pub read-number-spec : {M : Type 1} → statement M
 read-number-spec =
     tie.close
     (tie.spec
-    slice-aggregate-has
-    has-requires
-    add-t13
-    returns
+    slice-aggregate-begun
+    begun-requires
     sub-read-decimal
     read-decimal-requires
+    returns
+    add-after
     returns-2
-    read-decimal-requires-2
-    enum-told
-    enum-known-x
     returns-3
+    read-decimal-requires-2
+    enum-known-x
+    enum-known-x-2
     returns-4
-    returns-5)
+    returns-5
+    returns-6)

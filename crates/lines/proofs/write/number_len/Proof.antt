@@ -2,13 +2,13 @@ use mathlib.Core.Bool.{Bool}
 use mathlib.Core.List.{List}
 use mathlib.Core.Path.{_≡_, refl, ap}
 use Prim.Native.Nat.{ℕ, _≤_}
-use native.Mathlib.Omega.{arith}
 use lib.ListN.{length}
 use Rattle.tables.specs.Instants.{Now}
 use Rattle.lines.specs.Lines.{numberText}
 use Rattle.lines.specs.Sizes.{mostNumber, Long}
-use Rattle.lines.proofs.WriteLaws.{number-short, number-word, number-finite, number-inner}
+use Rattle.lines.proofs.WriteLaws.{number-short, number-word, number-finite}
 use borrow.Author.Needs.{needs}
+use native.Mathlib.Omega.{arith}
 use Rattle.lines.proofs.write.number_len.Statement.{statement}
 use Rattle.lines.proofs.write.number_len.Tie as tie
 
@@ -19,27 +19,13 @@ long last v n h e q =
     let l = ap length e in record { count = omega arith; small = omega (arith, number-short last v h) }
 
 returns : tie.Need-returns
-returns c =
-    let a = c .before .before .args in
-    long (a .last) (a .v) 3 (omega arith) (number-word (a .last) (a .v) (c .before .if1 .taken) (c .if2 .taken)) refl
+returns c = long _ _ 3 (omega arith) (number-word _ _ (c .if1 .taken)) refl
 
 decimal-width-requires : tie.Need-decimal-width-requires
 decimal-width-requires c κs = search needs
 
 returns-2 : tie.Need-returns-2
-returns-2 c =
-    let a = c .before .before .before .args in
-    long (a .last) (a .v) _ (omega arith) (number-finite (a .last) (a .v) (c .before .if2 .left))
-    (c .decimal-width .ensures)
-
-decimal-width-requires-2 : tie.Need-decimal-width-requires-2
-decimal-width-requires-2 c κs = search needs
-
-returns-3 : tie.Need-returns-3
-returns-3 c =
-    let a = c .before .before .args in
-    long (a .last) (a .v) _ (omega arith) (number-inner (a .last) (a .v) (c .before .if1 .left))
-    (c .decimal-width2 .ensures)
+returns-2 c = long _ _ _ (omega arith) (number-finite _ _ (c .before .if1 .left)) (c .decimal-width .ensures)
 
 pub number-len-spec : {M : Type 1} → statement M
-number-len-spec = tie.close (tie.spec returns decimal-width-requires returns-2 decimal-width-requires-2 returns-3)
+number-len-spec = tie.close (tie.spec returns decimal-width-requires returns-2)

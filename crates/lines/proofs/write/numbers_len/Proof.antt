@@ -1,10 +1,7 @@
-use mathlib.Core.Path.{_≡_, refl}
-use Prim.Native.Nat.{suc, _-_, _<_}
-use native.Mathlib.Omega.{arith}
-use denote.Ref.{now}
-use lib.ListN.{length}
-use borrow.Author.Needs.{needs}
+use mathlib.Core.Path.{refl}
 use Rattle.lines.proofs.WriteLaws.{Counting, count-turn, count-done}
+use borrow.Author.Needs.{needs}
+use native.Mathlib.Omega.{arith}
 use Rattle.lines.proofs.write.numbers_len.Statement.{statement}
 use Rattle.lines.proofs.write.numbers_len.Tie as tie
 
@@ -14,6 +11,13 @@ Inv-loop f table base sum₀ left₀ j₀ sum left j = Counting f table base lef
 abbrev μ-loop : tie.MeasureT-loop
 μ-loop f table base sum₀ left₀ j₀ sum left j = left
 
+-- the places
+abbrev start : tie.At-loop Inv-loop μ-loop → tie.Start Inv-loop μ-loop
+start c = c .before .before
+
+abbrev loop : tie.After-number-len Inv-loop μ-loop → tie.At-loop Inv-loop μ-loop
+loop c = c .before .before .before .before
+
 loop-holds : tie.Need-loop-holds Inv-loop μ-loop
 loop-holds c = record { total = omega arith; room = refl; small = omega arith }
 
@@ -21,7 +25,7 @@ sub-left : tie.Need-sub-left Inv-loop μ-loop
 sub-left c = search needs
 
 mul-number-len : tie.Need-mul-number-len Inv-loop μ-loop
-mul-number-len c = omega (arith, c .before .before .before .good, c .before .before .before .pre .0)
+mul-number-len c = omega (arith, start (c .before) .good, start (c .before) .pre .row)
 
 shared-slice-read-number-len : tie.Need-shared-slice-read-number-len Inv-loop μ-loop
 shared-slice-read-number-len c = search needs
@@ -36,13 +40,7 @@ add-sum : tie.Need-add-sum Inv-loop μ-loop
 add-sum c = omega (arith, c .number-len .ensures)
 
 add-sum-2 : tie.Need-add-sum-2 Inv-loop μ-loop
-add-sum-2 c =
-    omega (
-      arith,
-      c .number-len .ensures,
-      c .before .before .before .before .loop .inv .small,
-      c .before .before .before .before .before .before .pre .1,
-    )
+add-sum-2 c = omega (arith, c .number-len .ensures, loop c .loop .inv .small, start (loop c) .pre .narrow)
 
 add-j : tie.Need-add-j Inv-loop μ-loop
 add-j c = search needs
@@ -52,24 +50,11 @@ loop-less c = search needs
 
 loop-again : tie.Need-loop-again Inv-loop μ-loop
 loop-again c =
-    let a = c .before .before .before .before .before .before .args in
-    let l = c .before .before .before .before .loop in
-    let more : l .left ≡ suc (l .left - 1) = omega (arith, c .before .before .before .loop-test .taken) in
-    let inside : l .j < length (now (a .table)) = omega (
-      arith,
-      c .before .before .before .loop-test .taken,
-      c .before .before .before .before .before .before .pre .0,
-    ) in
-    let n = c .number-len in
-    let end = c .before .is-end in
-    count-turn (a .f) (now (a .table)) (a .base) (l .left) (l .j) (l .sum) (l .inv) (l .left - 1) (end .result)
-    (n .result) more (end .ensures) inside (n .ensures)
+    count-turn (loop c .loop .inv) (omega arith) (start (loop c) .pre) (c .before .is-end .ensures)
+    (c .number-len .ensures)
 
 returns : tie.Need-returns Inv-loop μ-loop
-returns c =
-    let a = c .before .before .before .args in
-    let l = c .before .loop in
-    count-done (a .f) (now (a .table)) (a .base) (l .left) (l .j) (l .sum) (l .inv) (c .loop-test .left)
+returns c = count-done (c .before .loop .inv) (c .loop-test .left)
 
 pub numbers-len-spec : {M : Type 1} → statement M
 numbers-len-spec =

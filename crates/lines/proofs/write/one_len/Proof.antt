@@ -1,10 +1,10 @@
-use native.Mathlib.Omega.{arith}
 use denote.Ref.{now}
 use lib.ListN.{length-append}
 use mathlib.Core.List.{[], _∷_}
 use Rattle.tables.specs.Instants.{Now}
 use Rattle.lines.specs.Lines.{oneForm, numbersText}
 use borrow.Author.Needs.{needs}
+use native.Mathlib.Omega.{arith}
 use Rattle.lines.proofs.write.one_len.Statement.{statement}
 use Rattle.lines.proofs.write.one_len.Tie as tie
 
@@ -15,14 +15,16 @@ slice-aggregate-numbers-len : tie.Need-slice-aggregate-numbers-len
 slice-aggregate-numbers-len c = search needs
 
 numbers-len-requires : tie.Need-numbers-len-requires
-numbers-len-requires c κs = let e = c .before .one-form .ensures in rw e (omega arith, omega arith)
+numbers-len-requires c κs =
+    let e = c .before .one-form .ensures in rw e (record { row = omega arith; narrow = omega arith })
 
 add-result : tie.Need-add-result
 add-result c =
     let n = rw (c .before .before .one-form .ensures) at (c .numbers-len .ensures) in omega (arith, n .small)
 
 returns : tie.Need-returns
-returns c = let n = rw (c .before .before .one-form .ensures) at (c .numbers-len .ensures) in
+returns c =
+    let n = rw (c .before .before .one-form .ensures) at (c .numbers-len .ensures) in
     let a = c .before .before .before .before .args in
     let l = length-append (now (a .key)) (numbersText (oneForm 0 Now) 1 (a .v ∷ [])) in
     record { count = omega arith; small = omega (arith, n .small) }

@@ -1,7 +1,6 @@
 use mathlib.Core.Path.{refl}
 use Prim.Native.Nat.{_-_}
 use native.Mathlib.Omega.{arith}
-use denote.Ref.{now}
 use lib.ListN.{length}
 use Rattle.lines.proofs.WriteLaws.{Putting, put-turn, put-done}
 use Rattle.lines.proofs.write.put.Statement.{statement}
@@ -32,19 +31,13 @@ loop-less : tie.Need-loop-less Inv-loop μ-loop
 loop-less c = omega arith
 
 loop-again : tie.Need-loop-again Inv-loop μ-loop
-loop-again c =
-    let a = c .before .before .before .args in
-    let l = c .before .before .loop in
-    put-turn (now (a .bytes)) (now (a .out)) (a .at) (l .out) (l .i) (l .j) (l .inv) (omega arith)
+loop-again c = put-turn (c .before .before .loop .inv) (omega arith)
 
 same-length : tie.Need-same-length Inv-loop μ-loop
 same-length c = c .before .loop .inv .long
 
 returns : tie.Need-returns Inv-loop μ-loop
-returns c =
-    let a = c .before .before .args in
-    let l = c .before .loop in
-    put-done (now (a .bytes)) (now (a .out)) (a .at) (l .out) (l .i) (l .j) (l .inv) (c .loop-test .left)
+returns c = put-done (c .before .loop .inv) (c .loop-test .left)
 
 pub put-spec : {M : Type 1} → statement M
 put-spec =

@@ -1,10 +1,7 @@
-use mathlib.Core.Path.{_≡_, refl}
-use Prim.Native.Nat.{suc, _+_, _-_, _≤_}
-use native.Mathlib.Omega.{arith}
-use denote.Ref.{now}
-use lib.ListN.{length}
+use mathlib.Core.Path.{refl}
+use Rattle.lines.proofs.WriteLaws.{WritingLines, write-row, line-fits, write-ready, write-line, lines-done}
 use borrow.Author.Needs.{needs}
-use Rattle.lines.proofs.WriteLaws.{numbersFrom, WritingLines, line-fits, write-line, lines-done}
+use native.Mathlib.Omega.{arith}
 use Rattle.lines.proofs.write.write_lines.Statement.{statement}
 use Rattle.lines.proofs.write.write_lines.Tie as tie
 
@@ -14,48 +11,42 @@ Inv-loop out₀ at key f table m i₀ left₀ j₀ out i left j = WritingLines k
 abbrev μ-loop : tie.MeasureT-loop
 μ-loop out₀ at key f table m i₀ left₀ j₀ out i left j = left
 
+-- the places: the start, the loop, after the key, after the numbers
+abbrev start : tie.At-loop Inv-loop μ-loop → tie.Start Inv-loop μ-loop
+start c = c .before .before .before .before
+
+abbrev loop : tie.After-put Inv-loop μ-loop → tie.At-loop Inv-loop μ-loop
+loop c = c .before .before .before
+
+abbrev key : tie.After-write-numbers-arg Inv-loop μ-loop → tie.After-put Inv-loop μ-loop
+key c = c .before .before .before
+
+abbrev wrote : tie.After-struct-known Inv-loop μ-loop → tie.After-write-numbers Inv-loop μ-loop
+wrote c = c .before .before .before
+
 loop-holds : tie.Need-loop-holds Inv-loop μ-loop
 loop-holds c = record { held = refl; place = refl; room = omega arith; long = refl }
 
-more : (c : tie.In-loop Inv-loop μ-loop) → c .before .loop .left ≡ suc (c .before .loop .left - 1)
-more c = omega (arith, c .loop-test .taken)
-
-abbrev Fits : tie.In-loop Inv-loop μ-loop → Type 0
-Fits c =
-    let a = c .before .before .before .before .before .args in
-    let l = c .before .loop in
-    (l .j + a .f .width ≤ length (now (a .table)))
-    × (l .i + length (now (a .key)) + length (numbersFrom (a .f) (now (a .table)) (l .j)) ≤ length (l .out))
-
-fits : (c : tie.In-loop Inv-loop μ-loop) → Fits c
-fits c =
-    let a = c .before .before .before .before .before .args in
-    let l = c .before .loop in
-    let pre = c .before .before .before .before .before .pre in
-    line-fits (now (a .key)) (a .f) (now (a .table)) (l .left) (l .left - 1) (l .j) (more c)
-    (a .m) (now (a .out)) (a .at) (l .out) (l .i) (l .inv) (pre .0) (pre .1)
-
 put-requires : tie.Need-put-requires Inv-loop μ-loop
-put-requires c κs = omega (arith, fits (c .before) .1)
+put-requires c κs =
+    let l = c .before .before in
+    omega (arith, line-fits (l .loop .inv) (omega arith) (start l .pre))
 
 write-numbers-requires : tie.Need-write-numbers-requires Inv-loop μ-loop
 write-numbers-requires c κs =
-    let a = c .before .before .before .before .before .before .before .before .before .before .args in
-    let l = c .before .before .before .before .before .before .loop in
-    let r = c .before .before .before .put in
-    let f = fits (c .before .before .before .before .before) in
-    let q : r .result + length (numbersFrom (a .f) (now (a .table)) (l .j)) ≤ length (r .last .0) = omega
-    (arith, f .1, r .ensures .after, r .kept .0) in
-    (f .0, q)
+    let k = key c in
+    let l = loop k in
+    write-ready (l .loop .inv) (omega arith) (start l .pre) (k .put .ensures)
 
 add-j : tie.Need-add-j Inv-loop μ-loop
 add-j c =
-    omega (
-      arith,
-      fits (c .before .before .before .before .before .before .before .before .before) .0,
-      c .before .before .before .before .before .before .before .before .before .before .before .before .before
-          .before .good,
-    )
+    let l = loop (key (wrote c .before)) in
+    omega (arith, write-row (l .loop .inv) (omega arith) (start l .pre), start l .good)
+
+add-j-2 : tie.Need-add-j-2 Inv-loop μ-loop
+add-j-2 c =
+    let l = loop (key (wrote c .before)) in
+    omega (arith, write-row (l .loop .inv) (omega arith) (start l .pre), start l .good)
 
 sub-left : tie.Need-sub-left Inv-loop μ-loop
 sub-left c = search needs
@@ -65,26 +56,15 @@ loop-less c = search needs
 
 loop-again : tie.Need-loop-again Inv-loop μ-loop
 loop-again c =
-    let a =
-    c .before .before .before .before .before .before .before .before .before .before .before .before .before
-    .before .args in
-    let l = c .before .before .before .before .before .before .before .before .before .before .loop in
-    let r = c .before .before .before .before .before .before .before .put in
-    let w = c .before .before .before .write-numbers in
-    write-line (now (a .key)) (a .f) (now (a .table)) (l .left) (l .left - 1) (l .j)
-    (more (c .before .before .before .before .before .before .before .before .before))
-    (a .m) (now (a .out)) (a .at) (l .out) (l .i) (l .inv) (r .result) (r .last .0) (w .result) (w .last .0)
-    (r .ensures) (w .ensures)
+    let k = key (wrote c .before) in
+    let l = loop k in
+    write-line (l .loop .inv) (omega arith) (start l .pre) (k .put .ensures) (wrote c .write-numbers .ensures)
 
 same-length : tie.Need-same-length Inv-loop μ-loop
 same-length c = c .before .loop .inv .long
 
 returns : tie.Need-returns Inv-loop μ-loop
-returns c =
-    let a = c .before .before .before .before .before .args in
-    let l = c .before .loop in
-    lines-done (now (a .key)) (a .f) (now (a .table)) (a .m) (now (a .out)) (a .at) (l .left) (l .j) (l .out) (l .i)
-    (c .loop-test .left) (l .inv)
+returns c = lines-done (c .before .loop .inv) (c .loop-test .left)
 
 pub write-lines-spec : {M : Type 1} → statement M
 write-lines-spec =
@@ -96,6 +76,7 @@ write-lines-spec =
     put-requires
     write-numbers-requires
     add-j
+    add-j-2
     sub-left
     loop-less
     loop-again

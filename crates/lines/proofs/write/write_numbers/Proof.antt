@@ -1,11 +1,7 @@
-use mathlib.Core.Path.{_≡_, refl}
-use Prim.Native.Nat.{suc, _+_, _-_, _<_}
-use native.Mathlib.Omega.{arith}
-use denote.Ref.{now}
-use lib.ListN.{length, getD}
-use Rattle.lines.specs.Lines.{numberText}
+use mathlib.Core.Path.{refl}
+use Rattle.lines.proofs.WriteLaws.{Writing, write-inside, write-fits, write-turn, write-done}
 use borrow.Author.Needs.{needs}
-use Rattle.lines.proofs.WriteLaws.{Writing, write-fits, write-turn, write-done}
+use native.Mathlib.Omega.{arith}
 use Rattle.lines.proofs.write.write_numbers.Statement.{statement}
 use Rattle.lines.proofs.write.write_numbers.Tie as tie
 
@@ -15,6 +11,19 @@ Inv-loop out₀ at f table base i₀ left₀ j₀ out i left j = Writing f table
 abbrev μ-loop : tie.MeasureT-loop
 μ-loop out₀ at f table base i₀ left₀ j₀ out i left j = left
 
+-- the places: the start, the loop, and where it is known whether the number is an end
+abbrev start : tie.At-loop Inv-loop μ-loop → tie.Start Inv-loop μ-loop
+start c = c .before .before .before
+
+abbrev loop : tie.After-is-end Inv-loop μ-loop → tie.At-loop Inv-loop μ-loop
+loop c = c .before .before .before .before
+
+abbrev ended : tie.After-mark-after Inv-loop μ-loop → tie.After-is-end Inv-loop μ-loop
+ended c = c .before .before .before .before
+
+abbrev wrote : tie.After-mark-after Inv-loop μ-loop → tie.After-write-number Inv-loop μ-loop
+wrote c = c .before .before .before
+
 loop-holds : tie.Need-loop-holds Inv-loop μ-loop
 loop-holds c = record { held = refl; place = refl; room = refl; long = refl }
 
@@ -23,7 +32,8 @@ sub-left c = search needs
 
 mul-write-number : tie.Need-mul-write-number Inv-loop μ-loop
 mul-write-number c =
-    omega (arith, c .before .before .before .before .before .good, c .before .before .before .before .before .pre .0)
+    let l = c .before .before in omega
+    (arith, start l .good, write-inside (l .loop .inv) (omega arith) (start l .pre))
 
 shared-slice-read-write-number : tie.Need-shared-slice-read-write-number Inv-loop μ-loop
 shared-slice-read-write-number c = search needs
@@ -31,47 +41,33 @@ shared-slice-read-write-number c = search needs
 is-end-requires : tie.Need-is-end-requires Inv-loop μ-loop
 is-end-requires c κs = search needs
 
-more : (c : tie.In-loop Inv-loop μ-loop) → c .before .loop .left ≡ suc (c .before .loop .left - 1)
-more c = omega (arith, c .loop-test .taken)
-
-inside : (c : tie.In-loop Inv-loop μ-loop)
-    → c .before .loop .j < length (now (c .before .before .before .before .args .table))
-inside c = omega (arith, c .loop-test .taken, c .before .before .before .before .pre .0)
-
-abbrev Fits : tie.After-is-end Inv-loop μ-loop → Type 0
-Fits c =
-    let a = c .before .before .before .before .before .before .before .args in
-    let l = c .before .before .before .before .loop in
-    l .i + length (numberText (c .is-end .result) (getD (now (a .table)) (l .j) 0)) < length (l .out)
-
-fits : (c : tie.After-is-end Inv-loop μ-loop) → Fits c
-fits c =
-    let a = c .before .before .before .before .before .before .before .args in
-    let l = c .before .before .before .before .loop in
-    let t = c .before .before .before in
-    write-fits (a .f) (now (a .table)) (l .left) (l .left - 1) (l .j) (c .is-end .result) (more t)
-    (c .is-end .ensures) (inside t)
-    (a .base) (now (a .out)) (a .at) (l .out) (l .i) (l .inv) (t .before .before .before .before .pre .1)
-
 write-number-requires : tie.Need-write-number-requires Inv-loop μ-loop
-write-number-requires c κs = omega (arith, fits c)
+write-number-requires c κs =
+    let l = loop c in
+    omega (arith, write-fits (l .loop .inv) (omega arith) (start l .pre) (c .is-end .ensures))
 
 mark-after-requires : tie.Need-mark-after-requires Inv-loop μ-loop
 mark-after-requires c κs = search needs
 
 slice-write-out : tie.Need-slice-write-out Inv-loop μ-loop
 slice-write-out c =
-    let r = c .before .before .before .write-number in
-    omega (arith, fits (c .before .before .before .before), r .ensures .after, r .kept .0)
+    let l = loop (ended c) in
+    let r = wrote c .write-number in
+    omega (
+      arith,
+      write-fits (l .loop .inv) (omega arith) (start l .pre) (ended c .is-end .ensures),
+      r .ensures .after,
+      r .kept .0,
+    )
 
 add-i : tie.Need-add-i Inv-loop μ-loop
 add-i c =
-    let r = c .before .before .before .write-number in
+    let l = loop (ended c) in
     omega (
       arith,
-      fits (c .before .before .before .before),
-      r .ensures .after,
-      c .before .before .before .before .before .before .before .before .before .before .before .good,
+      write-fits (l .loop .inv) (omega arith) (start l .pre) (ended c .is-end .ensures),
+      wrote c .write-number .ensures .after,
+      start l .good,
     )
 
 add-j : tie.Need-add-j Inv-loop μ-loop
@@ -82,24 +78,15 @@ loop-less c = search needs
 
 loop-again : tie.Need-loop-again Inv-loop μ-loop
 loop-again c =
-    let a = c .before .before .before .before .before .before .before .before .before .before .before .args in
-    let l = c .before .before .before .before .before .before .before .before .loop in
-    let r = c .before .before .before .write-number in
-    let end = c .before .before .before .before .is-end in
-    let t = c .before .before .before .before .before .before .before in
-    write-turn (a .f) (now (a .table)) (l .left) (l .left - 1) (l .j) (end .result) (more t) (end .ensures) (inside t)
-    (a .base) (now (a .out)) (a .at) (l .out) (l .i) (l .inv)
-    (r .result) (r .last .0) (c .mark-after .result) (r .ensures) (c .mark-after .ensures)
+    let l = loop (ended c) in
+    write-turn (l .loop .inv) (omega arith) (start l .pre) (ended c .is-end .ensures)
+    (wrote c .write-number .ensures) (c .mark-after .ensures)
 
 same-length : tie.Need-same-length Inv-loop μ-loop
 same-length c = c .before .loop .inv .long
 
 returns : tie.Need-returns Inv-loop μ-loop
-returns c =
-    let a = c .before .before .before .before .args in
-    let l = c .before .loop in
-    write-done (a .f) (now (a .table)) (a .base) (now (a .out)) (a .at) (l .left) (l .j) (l .out) (l .i)
-    (c .loop-test .left) (l .inv)
+returns c = write-done (c .before .loop .inv) (c .loop-test .left)
 
 pub write-numbers-spec : {M : Type 1} → statement M
 write-numbers-spec =
