@@ -5,8 +5,7 @@ use mathlib.Core.Bool.{true, false, false≢true}
 use mathlib.Core.List.{List}
 use mathlib.Core.Logic.{⊎-elim}
 use mathlib.Core.Path.{_≡_, refl, sym, ap, subst, _∙_}
-use Prim.Native.Nat.{ℕ, _*_, _/_, _≤_, _<_}
-use native.Mathlib.Nat.{mul-div-cancel}
+use Prim.Native.Nat.{ℕ, _*_, _≤_}
 use native.Mathlib.Omega.{arith}
 use lib.ListN.{length, take, drop}
 use lib.Seq.{take-append-seam}
@@ -18,11 +17,12 @@ use Rattle.answers.specs.Numbers.{refuses}
 use Rattle.answers.specs.Refusals.{passed}
 use Rattle.tables.specs.Instants.{Now}
 use Rattle.tables.specs.Rows.{nodeWidth, edgeWidth, refWidth}
-use Rattle.tables.specs.Rules.{SizeRule, Sizes}
+use Rattle.tables.specs.Tables.{Table, Tables}
+use Rattle.tables.specs.Sizes.{Whole, SizeRule, Sizes}
 use Rattle.tables.specs.Gives.{Gives, nodes-size, edges-size, refs-size}
 use Rattle.tables.proofs.GivesLaws.{gives-is}
 use Rattle.text.specs.declared.read.Reading.{Reading}
-use Rattle.text.specs.Text.{Tables, Small, Lendable, textOf}
+use Rattle.text.specs.Text.{Small, LendableTable, Lendable, textOf}
 use Rattle.text.specs.Answers.{
   Written,
   out-of-size,
@@ -43,19 +43,20 @@ use Rattle.text.specs.Answers.{
   fronts,
 }
 use Rattle.text.proofs.RoundTrip.{accepted-unique, accepted-or-not, place-unique}
-use Rattle.text.proofs.WriteLaws.{sizes, sizes-right, written-size}
+use Rattle.tables.proofs.GivesLaws.{sizes-pass}
+use Rattle.text.proofs.WriteLaws.{sizes, written-size}
 use Rattle.text.proofs.ReadLaws.{judged-short, short-or-fits}
 
 -- ---- write text
 
-sizes-not-wrong : {start : ℕ} {ns es rs : List ℕ} {p : ℕ} → Gives start ns es rs (Size p) → Sizes ns es rs → ⊥
-sizes-not-wrong (nodes-size f) s = f (s .0)
-sizes-not-wrong (edges-size n f) s = f (s .1)
-sizes-not-wrong (refs-size n m f) s = f (s .2)
+sizes-not-wrong : {t : Tables} {p : ℕ} → Gives t (Size p) → Sizes t → ⊥
+sizes-not-wrong (nodes-size f) s = f (s .nodes)
+sizes-not-wrong (edges-size n f) s = f (s .edges)
+sizes-not-wrong (refs-size n m f) s = f (s .refs)
 
 pub write-unique : {t : Tables} {out : List ℕ} {a b : Answer} {x y : List ℕ} → Written t out a x → Written t out b y
     → (a ≡ b) × (x ≡ y)
-write-unique (out-of-size g) (out-of-size h) = (gives-is _ _ _ _ g ∙ sym (gives-is _ _ _ _ h), refl)
+write-unique (out-of-size g) (out-of-size h) = (gives-is _ g ∙ sym (gives-is _ h), refl)
 write-unique (out-of-size g) (short s l) = absurd (sizes-not-wrong g s)
 write-unique (out-of-size g) (wrote s l) = absurd (sizes-not-wrong g s)
 write-unique (short s l) (out-of-size g) = absurd (sizes-not-wrong g s)
@@ -67,10 +68,10 @@ write-unique (wrote s l) (wrote r m) = (refl, refl)
 
 pub write-exists : (t : Tables) (out : List ℕ) → (a : Answer) × (out′ : List ℕ) × Written t out a out′
 write-exists t out =
-    by-test (refuses (sizes t out))
-    (λ e. (_, _, written-size t out e))
+    by-test (refuses (sizes t))
+    (λ e. (_, _, written-size refl e))
     (λ e.
-    let right = sizes-right (t .nodes) (t .edges) (t .refs) e in
+    let right = sizes-pass t e in
     by-lt (length out) (length (textOf t)) (λ h. (_, _, short right h)) (λ h. (_, _, wrote right h)))
 
 module _ {t : Tables} {out : List ℕ} where
@@ -80,7 +81,7 @@ module _ {t : Tables} {out : List ℕ} where
   write-frame (wrote s l) r = absurd (false≢true r)
 
   pub write-holds : {a : Answer} {out′ : List ℕ} → Written t out a out′ → refuses a ≡ false
-      → Sizes (t .nodes) (t .edges) (t .refs) × (a ≡ Done 0 (length (textOf t))) × (out′ ≡ front (textOf t) out)
+      → Sizes t × (a ≡ Done 0 (length (textOf t))) × (out′ ≡ front (textOf t) out)
   write-holds (out-of-size g) r = absurd (false≢true (sym r))
   write-holds (short s l) r = absurd (false≢true (sym r))
   write-holds (wrote s l) r = (s, refl, refl)
@@ -112,9 +113,9 @@ read-unique (took a g) (no-room b i) = absurd (short-not-fits i (rw (accepted-un
 read-unique {n = n} {e} {f} (took a g) (took b h) =
     let q = accepted-unique a b in (
       ap (readingOf passed) q,
-      ap (λ (t : Tables). front (t .nodes) n) q,
-      ap (λ (t : Tables). front (t .edges) e) q,
-      ap (λ (t : Tables). front (t .refs) f) q,
+      ap (λ (t : Tables). front (t .nodes .numbers) n) q,
+      ap (λ (t : Tables). front (t .edges .numbers) e) q,
+      ap (λ (t : Tables). front (t .refs .numbers) f) q,
     )
 
 pub read-exists : (s n e f : List ℕ)
@@ -129,21 +130,21 @@ read-exists s n e f =
     (λ (p, none, w). (_, _, _, _, wrong-text none w))
     (accepted-or-not s)
 
--- the counted rows at the front of a table that the rows of vs fill
-counted-front : (w : ℕ) {least most : ℕ} (vs old : List ℕ) → 0 < w → SizeRule w least most (length vs)
-    → take (length vs / w * w) (front vs old) ≡ vs
-counted-front w vs old h (m, e, l, u) =
-    let q : length vs / w * w ≡ length vs = ap (λ (i : ℕ). i / w * w) e
-    ∙ ap (λ (i : ℕ). i * w) (mul-div-cancel m h) ∙ sym e in
-    ap (λ (i : ℕ). take i (front vs old)) q ∙ take-append-seam vs (drop (length vs) old)
+-- the counted rows at the front of a table that the rows of x fill
+counted-front : (w : ℕ) (x : Table) (old : List ℕ) → Whole w x
+    → take (x .count * w) (front (x .numbers) old) ≡ x .numbers
+counted-front w x old e =
+    ap (λ (i : ℕ). take i (front (x .numbers) old)) (sym e)
+    ∙ take-append-seam (x .numbers) (drop (length (x .numbers)) old)
 
 fronts-are : (t : Tables) (n e f : List ℕ) → Lendable t
-    → fronts (readingOf passed t) (front (t .nodes) n) (front (t .edges) e) (front (t .refs) f) ≡ t
+    → fronts (readingOf passed t) (front (t .nodes .numbers) n) (front (t .edges .numbers) e)
+    (front (t .refs .numbers) f) ≡ t
 fronts-are t n e f o =
     rw (
-      counted-front nodeWidth (t .nodes) n (omega arith) (o .nodes-size),
-      counted-front edgeWidth (t .edges) e (omega arith) (o .edges-size),
-      counted-front refWidth (t .refs) f (omega arith) (o .refs-size),
+      counted-front nodeWidth (t .nodes) n (o .nodes .whole),
+      counted-front edgeWidth (t .edges) e (o .edges .whole),
+      counted-front refWidth (t .refs) f (o .refs .whole),
     )
 
 module _ {s n e f : List ℕ} where
@@ -162,15 +163,29 @@ module _ {s n e f : List ℕ} where
 
   pub read-accepted : {t : Tables} {r : Reading} {n′ e′ f′ : List ℕ} → Accepted s t → Fits t n e f
       → Read s n e f r n′ e′ f′
-      → (r ≡ readingOf passed t) × (n′ ≡ front (t .nodes) n) × (e′ ≡ front (t .edges) e) × (f′ ≡ front (t .refs) f)
+      → (r ≡ readingOf passed t)
+      × (n′ ≡ front (t .nodes .numbers) n)
+      × (e′ ≡ front (t .edges .numbers) e)
+      × (f′ ≡ front (t .refs .numbers) f)
   read-accepted a h x = read-unique x (took a h)
 
 -- ---- both
 
+-- a table of the right size is one that the text holds, and the other way round
+sized : {w lo hi : ℕ} {x : Table} → Small (x .numbers) → SizeRule w lo hi x → LendableTable w lo hi x
+sized s r = record { small = s; whole = r .whole; least = r .least; most = r .most }
+
+size-of : {w lo hi : ℕ} {x : Table} → LendableTable w lo hi x → SizeRule w lo hi x
+size-of o = record { whole = o .whole; least = o .least; most = o .most }
+
+pub sizes-of : {t : Tables} → Lendable t → Sizes t
+sizes-of o = record { nodes = size-of (o .nodes); edges = size-of (o .edges); refs = size-of (o .refs) }
+
 -- [demand 2] "tables written as text read back the same": the bytes that write text leaves are the text of these
 -- tables, and read text, given room, leaves them
 module _ {t : Tables} {out : List ℕ} {a : Answer} {out′ : List ℕ} (w : Written t out a out′) (c : refuses a ≡ false)
-    (start : t .start ≤ Now) (nodes : Small (t .nodes)) (edges : Small (t .edges)) (refs : Small (t .refs)) where
+    (start : t .start ≤ Now) (nodes : Small (t .nodes .numbers)) (edges : Small (t .edges .numbers))
+    (refs : Small (t .refs .numbers)) where
   pub written-accepted : Accepted (take (length (textOf t)) out′) t
   written-accepted =
       let (sizes, _, held) = write-holds w c in
@@ -178,12 +193,9 @@ module _ {t : Tables} {out : List ℕ} {a : Answer} {out′ : List ℕ} (w : Wri
         lendable =
             record {
               start = start;
-              nodes = nodes;
-              edges = edges;
-              refs = refs;
-              nodes-size = sizes .0;
-              edges-size = sizes .1;
-              refs-size = sizes .2;
+              nodes = sized nodes (sizes .nodes);
+              edges = sized edges (sizes .edges);
+              refs = sized refs (sizes .refs);
             };
         text = ap (take (length (textOf t))) held ∙ take-append-seam (textOf t) (drop (length (textOf t)) out);
       }
@@ -191,15 +203,17 @@ module _ {t : Tables} {out : List ℕ} {a : Answer} {out′ : List ℕ} (w : Wri
   pub read-written : {n e f : List ℕ} {r : Reading} {n′ e′ f′ : List ℕ}
       → Read (take (length (textOf t)) out′) n e f r n′ e′ f′
       → Fits t n e f
-      → (r ≡ readingOf passed t) × (n′ ≡ front (t .nodes) n) × (e′ ≡ front (t .edges) e) × (f′ ≡ front (t .refs) f)
+      → (r ≡ readingOf passed t)
+      × (n′ ≡ front (t .nodes .numbers) n)
+      × (e′ ≡ front (t .edges .numbers) e)
+      × (f′ ≡ front (t .refs .numbers) f)
   read-written x h = read-accepted written-accepted h x
 
 write-accepted : {s : List ℕ} {t : Tables} {out : List ℕ} → Accepted s t → length s ≤ length out
     → Written t out (Done 0 (length s)) (front s out)
 write-accepted {s} {t} {out} a h =
-    let o = a .lendable in
     let room : length (textOf t) ≤ length out = rw (a .text) at h in
-    rw (a .text) (wrote (o .nodes-size, o .edges-size, o .refs-size) room)
+    rw (a .text) (wrote (sizes-of (a .lendable)) room)
 
 -- [demand 2] "accepted text written again is the same text": what read text left, write text, given room, writes as
 -- that text

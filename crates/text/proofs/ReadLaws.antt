@@ -2,9 +2,8 @@
 use mathlib.Core.Bool.{true, false, false≢true}
 use mathlib.Core.List.{List, []}
 use mathlib.Core.Logic.{_⊎_, inl, inr, ⊎-elim}
-use mathlib.Core.Path.{_≡_, sym, ap, subst, _∙_}
-use Prim.Native.Nat.{ℕ, _*_, _/_, _≤_}
-use native.Mathlib.Nat.{mul-div-cancel}
+use mathlib.Core.Path.{_≡_, refl, sym, ap, subst, subst⁻¹, _∙_}
+use Prim.Native.Nat.{ℕ, _*_, _≤_}
 use native.Mathlib.Omega.{arith}
 use lib.ListN.{length}
 use borrow.Author.Tests.{lt-ltb, le-ltb}
@@ -12,21 +11,37 @@ use Rattle.answers.specs.declared.Answer.{Answer}
 use Rattle.answers.specs.declared.Answer.the-variants.{Room, Text}
 use Rattle.answers.specs.Numbers.{refuses}
 use Rattle.answers.specs.Refusals.{passed}
-use Rattle.tables.specs.Rows.{nodeWidth, edgeWidth, refWidth, nodeCount, edgeCount, refCount}
+use Rattle.tables.specs.Rows.{nodeWidth, edgeWidth, refWidth}
+use Rattle.tables.specs.Tables.{Tables}
+use Rattle.ground.specs.Lists.{front}
 use Rattle.ground.proofs.ListLaws.{stands-within, sets-front}
 use Rattle.ground.proofs.TestLaws.{by-lt}
 use Rattle.lines.specs.declared.read.Ended.the-variants.{At, Wrong}
-use Rattle.lines.specs.Reads.{Got, got, wrong, linesAt, endOf, isGot, numbersOf, placeOf}
+use Rattle.lines.specs.Reads.{Got, got, wrong, linesAt, endOf, isGot, gotOf, numbersOf, placeOf}
 use Rattle.lines.specs.Plans.{planAt}
-use Rattle.lines.proofs.GotLaws.{got-place, got-is, got-of, at-wrong, got-then}
+use Rattle.lines.specs.Fills.{FillableLines, Filled}
+use Rattle.lines.proofs.GotLaws.{got-place, got-is, got-of, is-got, at-wrong, got-then}
 use Rattle.lines.proofs.LineLaws.{lines-is}
 use Rattle.lines.proofs.PlanLaws.{plan-is}
-use Rattle.text.specs.declared.read.Counts.{Counts}
+use Rattle.text.specs.declared.forms.Counts.{Counts}
 use Rattle.text.specs.declared.read.Reading.{Reading}
-use Rattle.text.specs.Text.{Tables, nodeKey, edgeKey, refKey, nodeForm, edgeForm, refForm}
-use Rattle.text.specs.Reads.{headPlan, rowsPlan, whole, readText, roomSays, Held}
-use Rattle.text.specs.Answers.{Accepted, nothing, readingOf, Fits, TooShort, nodes-short, edges-short, refs-short, Read, wrong-text, no-room, took}
-use Rattle.text.proofs.RoundTrip.{refused, not-of-form}
+use Rattle.text.specs.Text.{counted, countsOf, nodeKey, edgeKey, refKey, nodeForm, edgeForm, refForm}
+use Rattle.text.specs.Reads.{headPlan, rowsPlan, whole, readText, roomSays, Announced, Held}
+use Rattle.text.specs.Answers.{
+  Accepted,
+  nothing,
+  readingOf,
+  Fits,
+  TooShort,
+  nodes-short,
+  edges-short,
+  refs-short,
+  Read,
+  wrong-text,
+  no-room,
+  took,
+}
+use Rattle.text.proofs.RoundTrip.{refused, not-of-form, write-of-read}
 use Rattle.text.proofs.ScanLaws.{rows, read-counted, scan-all}
 
 -- ---- the second pass, where all rows are right
@@ -41,20 +56,13 @@ module _ (s : List ℕ) (c : Counts) (at : ℕ) where
   abbrev pub refLines : Got (List ℕ)
   refLines = linesAt refKey refForm s (c .refs) (placeOf edgeLines)
 
-  abbrev pub rowTables : Tables
-  rowTables =
-      record { start = c .start; nodes = numbersOf nodeLines; edges = numbersOf edgeLines; refs = numbersOf refLines }
-
   pub record RowsRight (t : Tables) : Type 0 where
     pub nodes : isGot nodeLines ≡ true
     pub edges : isGot edgeLines ≡ true
     pub refs : isGot refLines ≡ true
     pub nodes-end : placeOf nodeLines ≤ length s
     pub edges-end : placeOf edgeLines ≤ length s
-    pub nodes-long : length (t .nodes) ≡ c .nodes * nodeWidth
-    pub edges-long : length (t .edges) ≡ c .edges * edgeWidth
-    pub refs-long : length (t .refs) ≡ c .refs * refWidth
-    pub all : rowTables ≡ t
+    pub all : counted c (numbersOf nodeLines) (numbersOf edgeLines) (numbersOf refLines) ≡ t
 
   pub rows-right : (t : Tables) (n : ℕ) → at ≤ length s → rows s c at ≡ got t n → RowsRight t
   unfolding rowsPlan planAt
@@ -64,23 +72,48 @@ module _ (s : List ℕ) (c : Counts) (at : ℕ) where
       let b : edgeLines ≡ got es j = ap (linesAt edgeKey edgeForm s (c .edges)) (got-place _ a) ∙ b₀ in
       let (rs, k, d₀, e₃) = got-then _ (linesAt refKey refForm s (c .refs) j) t n e₂ in
       let d : refLines ≡ got rs k = ap (linesAt refKey refForm s (c .refs)) (got-place _ b) ∙ d₀ in
-      let is₀ = lines-is nodeKey nodeForm s (c .nodes) at ns i a in
-      let is₁ = lines-is edgeKey edgeForm s (c .edges) i es j b₀ in
-      let is₂ = lines-is refKey refForm s (c .refs) j rs k d₀ in
-      let h₁ : i ≤ length s = stands-within h (is₀ .stands) in
-      let h₂ : j ≤ length s = stands-within h₁ (is₁ .stands) in
-      let q : record { start = c .start; nodes = ns; edges = es; refs = rs } ≡ t = cc in
+      let h₁ : i ≤ length s = stands-within h (lines-is nodeKey nodeForm s (c .nodes) at ns i a .stands) in
+      let h₂ : j ≤ length s = stands-within h₁ (lines-is edgeKey edgeForm s (c .edges) i es j b₀ .stands) in
+      let q : counted c ns es rs ≡ t = cc in
       record {
         nodes = got-is _ a;
         edges = got-is _ b;
         refs = got-is _ d;
         nodes-end = omega (arith, got-place _ a);
         edges-end = omega (arith, got-place _ b);
-        nodes-long = ap (λ (u : Tables). length (u .nodes)) (sym q) ∙ is₀ .long;
-        edges-long = ap (λ (u : Tables). length (u .edges)) (sym q) ∙ is₁ .long;
-        refs-long = ap (λ (u : Tables). length (u .refs)) (sym q) ∙ is₂ .long;
         all = rw (got-of [] _ a, got-of [] _ b, got-of [] _ d) q;
       }
+
+-- each table is filled from where the one before it ends
+module _ {s : List ℕ} {at : ℕ} {c : Counts} {n e f : List ℕ} (x : Announced s at c n e f) where
+  abbrev told : Tables
+  told = gotOf nothing (rows s c at)
+
+  right : RowsRight s c at told
+  right = rows-right s c at told (placeOf (rows s c at)) (x .reached) (is-got nothing (rows s c at) (x .good))
+
+  pub fill-nodes : FillableLines nodeKey nodeForm s (c .nodes) at n
+  fill-nodes = record { reached = x .reached; room = x .nodes; good = right .nodes; shown = refl }
+
+  module _ {n′ : List ℕ} {i : ℕ} (a : Filled (nodeLines s c at) n 0 n′ i) where
+    pub fill-edges : FillableLines edgeKey edgeForm s (c .edges) i e
+    fill-edges =
+        rw (a .after) (record { reached = right .nodes-end; room = x .edges; good = right .edges; shown = refl })
+
+    module _ {e′ : List ℕ} {j : ℕ} (b : Filled (linesAt edgeKey edgeForm s (c .edges) i) e 0 e′ j) where
+      abbrev then-edges : Filled (edgeLines s c at) e 0 e′ j
+      then-edges = rw (a .after) at b
+
+      pub fill-refs : FillableLines refKey refForm s (c .refs) j f
+      fill-refs =
+          rw (then-edges .after)
+          (record { reached = right .edges-end; room = x .refs; good = right .refs; shown = refl })
+
+      pub rows-held : {f′ : List ℕ} {k : ℕ} → Filled (linesAt refKey refForm s (c .refs) j) f 0 f′ k
+          → Held told n e f n′ e′ f′
+      rows-held d =
+          let d′ : Filled (refLines s c at) f 0 _ _ = rw (then-edges .after) at d in
+          rw (sym (right .all)) (record { nodes = a .held; edges = then-edges .held; refs = d′ .held })
 
 -- ---- what the scan of the rows says of the text
 
@@ -91,55 +124,32 @@ module _ (s : List ℕ) (c : Counts) (at : ℕ) (head : planAt headPlan s 0 ≡ 
   pub text-wrong : (p : ℕ) → endOf (whole s (rows s c at)) ≡ Wrong p → readText s ≡ wrong p
   text-wrong p e = read-counted s c at head ∙ at-wrong _ p e
 
-  pub record TextRight (n : ℕ) : Type 0 where
+  -- the tables of the text, with the counts that its first lines tell
+  pub record TextRight : Type 0 where
     pub tables : Tables
-    pub read : readText s ≡ got tables n
-    pub got-rows : rows s c at ≡ got tables n
-    pub right : RowsRight s c at tables
+    pub accepted : Accepted s tables
+    pub place : ℕ
+    pub got-rows : rows s c at ≡ got tables place
+    pub counts : countsOf tables ≡ c
 
-  pub text-right : (n : ℕ) → endOf (whole s (rows s c at)) ≡ At n → TextRight n
+  pub text-right : (n : ℕ) → endOf (whole s (rows s c at)) ≡ At n → TextRight
   text-right n e =
       let (t, r, w) = scan-all s (rows s c at) n e in
       record {
         tables = t;
-        read = read-counted s c at head
-            ∙ w;
+        accepted = write-of-read s t n (read-counted s c at head ∙ w);
+        place = n;
         got-rows = r;
-        right = rows-right s c at t n head-within r;
+        counts = ap countsOf (sym (rows-right s c at t n head-within r .all));
       }
-
-module _ (s : List ℕ) (c : Counts) (at : ℕ) (t : Tables) (x : RowsRight s c at t) where
-  -- the room that the counts ask for is that of the tables
-  pub room-asked : (n e f : ℕ) → roomSays (c .nodes * nodeWidth) (c .edges * edgeWidth) (c .refs * refWidth) n e f
-      ≡ roomSays (length (t .nodes)) (length (t .edges)) (length (t .refs)) n e f
-  room-asked n e f = rw (x .nodes-long, x .edges-long, x .refs-long)
-
-  pub room-counted : {n e f : List ℕ} → Fits t n e f
-      → (c .nodes * nodeWidth ≤ length n) × (c .edges * edgeWidth ≤ length e) × (c .refs * refWidth ≤ length f)
-  room-counted h = (
-    omega (arith, x .nodes-long, h .nodes),
-    omega (arith, x .edges-long, h .edges),
-    omega (arith, x .refs-long, h .refs),
-  )
-
-  -- and the counts that the first lines tell are those of the tables
-  pub counts-told : (a : Answer)
-      → record { answer = a; start = c .start; nodes = c .nodes; edges = c .edges; refs = c .refs } ≡ readingOf a t
-  counts-told a =
-      let s₀ : c .start ≡ t .start = ap (λ (u : Tables). u .start) (x .all) in
-      let n : c .nodes ≡ nodeCount (t .nodes) = sym
-      (ap (λ (k : ℕ). k / nodeWidth) (x .nodes-long) ∙ mul-div-cancel (c .nodes) (omega arith)) in
-      let m : c .edges ≡ edgeCount (t .edges) = sym
-      (ap (λ (k : ℕ). k / edgeWidth) (x .edges-long) ∙ mul-div-cancel (c .edges) (omega arith)) in
-      let r : c .refs ≡ refCount (t .refs) = sym
-      (ap (λ (k : ℕ). k / refWidth) (x .refs-long) ∙ mul-div-cancel (c .refs) (omega arith)) in
-      cc
 
 -- ---- the room that is judged, in words
 
 module _ (t : Tables) (n e f : List ℕ) where
   abbrev pub judged : Answer
-  judged = roomSays (length (t .nodes)) (length (t .edges)) (length (t .refs)) (length n) (length e) (length f)
+  judged =
+      roomSays (length (t .nodes .numbers)) (length (t .edges .numbers)) (length (t .refs .numbers)) (length n)
+      (length e) (length f)
 
   pub judged-short : {k : ℕ} → TooShort t n e f k → judged ≡ Room 0 k
   unfolding roomSays
@@ -153,9 +163,9 @@ module _ (t : Tables) (n e f : List ℕ) where
 
   pub short-or-fits : ((k : ℕ) × TooShort t n e f k) ⊎ Fits t n e f
   short-or-fits =
-      by-lt (length n) (length (t .nodes)) (λ x. inl (0, nodes-short x))
-      (λ a. by-lt (length e) (length (t .edges)) (λ y. inl (1, edges-short a y))
-      (λ b. by-lt (length f) (length (t .refs)) (λ z. inl (2, refs-short a b z))
+      by-lt (length n) (length (t .nodes .numbers)) (λ x. inl (0, nodes-short x))
+      (λ a. by-lt (length e) (length (t .edges .numbers)) (λ y. inl (1, edges-short a y))
+      (λ b. by-lt (length f) (length (t .refs .numbers)) (λ z. inl (2, refs-short a b z))
       (λ d. inr (record { nodes = a; edges = b; refs = d }))))
 
   -- where room is not refused, it is there
@@ -165,28 +175,65 @@ module _ (t : Tables) (n e f : List ℕ) where
 
 -- ---- what is left, case by case
 
-module _ (s n e f : List ℕ) where
-  pub read-wrong : {r : Reading} (p : ℕ) → readText s ≡ wrong p → r ≡ readingOf (Text p) nothing → Read s n e f r n e f
-  read-wrong p w g =
-      subst (λ (q : Reading). Read s n e f q n e f) (sym g) (wrong-text (not-of-form s p w) (refused s p w))
+pub read-wrong : {s n e f : List ℕ} {r : Reading} {p : ℕ} → readText s ≡ wrong p → r ≡ readingOf (Text p) nothing
+    → Read s n e f r n e f
+read-wrong {s} {n} {e} {f} {p = p} w g =
+    subst⁻¹ (λ (q : Reading). Read s n e f q n e f) g (wrong-text (not-of-form s p w) (refused s p w))
 
-  module _ {t : Tables} (a : Accepted s t) {room : Answer} (says : room ≡ judged t n e f) where
-    pub read-short : {r : Reading} → refuses room ≡ true → r ≡ readingOf room nothing → Read s n e f r n e f
-    read-short w g =
-        ⊎-elim
-        (λ (k, x). rw (g, says, judged-short t n e f x) (no-room a x))
-        (λ h. absurd (false≢true (ap refuses (sym (says ∙ judged-fits t n e f h)) ∙ w)))
-        (short-or-fits t n e f)
+-- the room that the counts ask for
+abbrev pub asked : Counts → List ℕ → List ℕ → List ℕ → Answer
+asked c n e f =
+    roomSays (c .nodes * nodeWidth) (c .edges * edgeWidth) (c .refs * refWidth) (length n) (length e) (length f)
 
-    pub read-all : {r : Reading} {n′ e′ f′ : List ℕ} → refuses room ≡ false → r ≡ readingOf room t
-        → Held t n e f n′ e′ f′ → Read s n e f r n′ e′ f′
-    read-all w g h =
-        let fit = room-there t n e f (ap refuses (sym says) ∙ w) in
-        rw (
-          g,
-          says,
-          judged-fits t n e f fit,
-          h .nodes ∙ sets-front n (t .nodes) (fit .nodes),
-          h .edges ∙ sets-front e (t .edges) (fit .edges),
-          h .refs ∙ sets-front f (t .refs) (fit .refs),
-        ) (took a fit)
+module _ {s : List ℕ} {c : Counts} {at : ℕ} {head : planAt headPlan s 0 ≡ got c at} (x : TextRight s c at head) where
+  -- it is that of the tables
+  room-is : (n e f : List ℕ) {room : Answer} → room ≡ asked c n e f → room ≡ judged (x .tables) n e f
+  room-is n e f says =
+      let o = x .accepted .lendable in
+      says ∙ rw (o .nodes .whole, o .edges .whole, o .refs .whole)
+      (ap (λ (d : Counts). asked d n e f) (sym (x .counts)))
+
+  room-fits : {n e f : List ℕ} {room : Answer} → room ≡ asked c n e f → refuses room ≡ false → Fits (x .tables) n e f
+  room-fits {n} {e} {f} says w = room-there (x .tables) n e f (ap refuses (sym (room-is n e f says)) ∙ w)
+
+  pub room-short : {n e f : List ℕ} {room : Answer} {r : Reading} → room ≡ asked c n e f → refuses room ≡ true
+      → r ≡ readingOf room nothing → Read s n e f r n e f
+  room-short {n} {e} {f} says w g =
+      let t = x .tables in
+      let is = room-is n e f says in
+      ⊎-elim
+      (λ (k, y). rw (g, is, judged-short t n e f y) (no-room (x .accepted) y))
+      (λ h. absurd (false≢true (ap refuses (sym (is ∙ judged-fits t n e f h)) ∙ w)))
+      (short-or-fits t n e f)
+
+  pub room-announced : {n e f : List ℕ} {room : Answer} → room ≡ asked c n e f → refuses room ≡ false
+      → Announced s at c n e f
+  room-announced {n} {e} {f} says w =
+      let o = x .accepted .lendable in
+      let fits : Fits (x .tables) n e f = room-fits says w in
+      record {
+        reached = head-within s c at head;
+        good = got-is _ (x .got-rows);
+        nodes = omega (arith, o .nodes .whole, fits .nodes, ap (λ (d : Counts). d .nodes) (x .counts));
+        edges = omega (arith, o .edges .whole, fits .edges, ap (λ (d : Counts). d .edges) (x .counts));
+        refs = omega (arith, o .refs .whole, fits .refs, ap (λ (d : Counts). d .refs) (x .counts));
+      }
+
+  -- the counts that the first lines tell are those of the tables
+  pub room-taken : {n e f n′ e′ f′ : List ℕ} {room : Answer} → room ≡ asked c n e f → refuses room ≡ false
+      → Held (gotOf nothing (rows s c at)) n e f n′ e′ f′
+      → Read s n e f
+      (record { answer = room; start = c .start; nodes = c .nodes; edges = c .edges; refs = c .refs }) n′ e′ f′
+  room-taken {n} {e} {f} says w h₀ =
+      let t = x .tables in
+      let fits : Fits t n e f = room-fits says w in
+      let h = rw (got-of nothing _ (x .got-rows)) at h₀ in
+      rw (
+        room-is n e f says ∙ judged-fits t n e f fits,
+        h .nodes ∙ sets-front n (t .nodes .numbers) (fits .nodes),
+        h .edges ∙ sets-front e (t .edges .numbers) (fits .edges),
+        h .refs ∙ sets-front f (t .refs .numbers) (fits .refs),
+      ) (subst (λ (d : Counts). Read s n e f
+      (record { answer = passed; start = d .start; nodes = d .nodes; edges = d .edges; refs = d .refs })
+      (front (t .nodes .numbers) n) (front (t .edges .numbers) e) (front (t .refs .numbers) f))
+      (x .counts) (took (x .accepted) fits))

@@ -15,15 +15,16 @@ use Rattle.ground.proofs.TestLaws.{by-test}
 use Rattle.ground.proofs.ListLaws.{stands-whole}
 use Rattle.tables.specs.Instants.{Now}
 use Rattle.tables.specs.Rows.{nodeWidth, edgeWidth, refWidth}
-use Rattle.tables.specs.Rules.{leastNodes, mostNodes, mostEdges, mostRefs}
+use Rattle.tables.specs.Tables.{Tables}
+use Rattle.tables.specs.Sizes.{leastNodes, mostNodes, mostEdges, mostRefs}
 use Rattle.lines.specs.Lines.{oneForm, rowForm, joined}
 use Rattle.lines.specs.Reads.{Got, got, wrong, andThen, placeOf}
 use Rattle.lines.specs.Plans.{follow, planAt}
 use Rattle.lines.proofs.GotLaws.{by-got, got-not-wrong, got-place, wrong-place, then-got, got-then}
 use Rattle.lines.proofs.PlaceLaws.{FormOk}
 use Rattle.lines.proofs.PlanLaws.{plan-of, plan-is, plan-past, FormsOk, plan-before}
-use Rattle.text.specs.Text.{Tables, Lendable, edition, textLines, textOf}
-use Rattle.text.specs.Reads.{countsPlan, headPlan, rowsPlan, textPlan, whole, readText}
+use Rattle.text.specs.Text.{Lendable, edition, textLines, textOf}
+use Rattle.text.specs.Reads.{headPlan, rowsPlan, textPlan, whole, readText}
 use Rattle.text.specs.Place.{firstLines, FirstWrong}
 use Rattle.text.specs.Answers.{Accepted, NotOfForm}
 use Rattle.text.proofs.TextLaws.{text-prints, prints-text}
@@ -56,7 +57,7 @@ row-ok : (w : ℕ) (e : Bool) → FormOk (rowForm w e)
 row-ok w e = record { bounds = omega arith; small = omega arith }
 
 forms-ok : FormsOk textPlan
-unfolding follow countsPlan headPlan rowsPlan
+unfolding follow headPlan rowsPlan
 forms-ok = (
   one-ok edition edition (omega arith) (omega arith),
   λ e. (

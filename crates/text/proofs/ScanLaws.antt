@@ -1,47 +1,109 @@
 -- Read text, its first pass: the first five lines, and the reader of the rows that keeps no numbers. Assumes nothing.
 use mathlib.Core.List.{List}
 use mathlib.Core.Path.{_≡_, sym, ap, ap₂, _∙_}
-use Prim.Native.Nat.{ℕ, _≤_}
+use Prim.Native.Nat.{ℕ}
 use native.Mathlib.Omega.{arith}
+use lib.Dec.{eqb}
 use lib.ListN.{length}
-use borrow.Author.Tests.{ne-eqb}
+use Rattle.ground.proofs.TestLaws.{by-test}
+use Rattle.tables.specs.Tables.{Tables}
+use Rattle.decimals.specs.declared.Num.{Num}
+use Rattle.decimals.specs.declared.Num.the-variants.{Is, Missing}
 use Rattle.lines.specs.declared.form.Form.{Form}
 use Rattle.lines.specs.declared.read.Ended.{Ended}
-use Rattle.lines.specs.declared.read.Ended.the-variants.{At, Wrong}
-use Rattle.lines.specs.Reads.{Got, got, wrong, linesAt, endOf}
-use Rattle.lines.specs.Plans.{Plan, stop, lines, planAt}
-use Rattle.lines.proofs.GotLaws.{end-got, end-wrong, at-got, then-got, then-wrong}
+use Rattle.lines.specs.declared.read.Ended.the-variants.{At}
+use Rattle.lines.specs.Reads.{Got, got, wrong, andThen, linesAt, endOf, thenEnded, oneOf, thenNum}
+use Rattle.lines.specs.Plans.{planAt}
+use Rattle.lines.proofs.GotLaws.{by-got, at-got, then-got, then-wrong}
 use Rattle.lines.proofs.PlanLaws.{follow-at}
-use Rattle.lines.proofs.AlongLaws.{Along, along-none, along-stop, along-lines, wrong-lines}
-use Rattle.text.specs.declared.read.Counts.{Counts}
+use Rattle.text.specs.declared.forms.Counts.{Counts}
+use Rattle.text.specs.declared.read.Head.{Head}
 use Rattle.text.specs.declared.read.Head.the-variants.{Counted, Misplaced}
-use Rattle.text.specs.Text.{Tables, startKey, edgesKey, refsKey, nodeKey, edgeKey, refKey, nodeForm, edgeForm, refForm}
-use Rattle.text.specs.Reads.{startForm, edgesForm, refsForm, only, countsPlan, headPlan, rowsPlan, whole, readText, headOf}
-use Rattle.text.proofs.RoundTrip.{whole-got, whole-end}
+use Rattle.text.specs.Text.{
+  editionKey,
+  startKey,
+  nodesKey,
+  edgesKey,
+  refsKey,
+  nodeKey,
+  edgeKey,
+  refKey,
+  nodeForm,
+  edgeForm,
+  refForm,
+}
+use Rattle.text.specs.Reads.{
+  editionForm,
+  startForm,
+  nodesForm,
+  edgesForm,
+  refsForm,
+  headPlan,
+  rowsPlan,
+  whole,
+  endAt,
+  readText,
+  valueOf,
+  headOf,
+}
+use Rattle.text.proofs.RoundTrip.{whole-got}
 
--- ---- the first five lines: the plan of the counts, from each of its lines on
+-- ---- the first five lines, each read from where the one before it ended
 
-abbrev pub lastPlan : ℕ → ℕ → ℕ → ℕ → Plan Counts
-lastPlan a n m r = stop (record { start = a; nodes = n; edges = m; refs = r })
+module _ (s : List ℕ) where
+  abbrev oneAt : List ℕ → Form → ℕ → Num
+  oneAt k f i = oneOf (linesAt k f s 1 i)
 
-abbrev pub refsPlan : ℕ → ℕ → ℕ → Plan Counts
-refsPlan a n m = lines refsKey refsForm 1 λ r. lastPlan a n m (only r)
+  abbrev pub anEdition : Num
+  anEdition = oneAt editionKey editionForm 0
 
-abbrev pub edgesPlan : ℕ → ℕ → Plan Counts
-edgesPlan a n = lines edgesKey edgesForm 1 λ m. refsPlan a n (only m)
+  abbrev pub thenStart : Num → Num
+  thenStart x = thenNum x (oneAt startKey startForm)
 
-abbrev pub startPlan : Plan Counts
-startPlan = lines startKey startForm 1 λ a. countsPlan (only a)
+  abbrev pub thenNodeCount : Num → Num
+  thenNodeCount x = thenNum x (oneAt nodesKey nodesForm)
 
--- what their readers answer
-pub head-wrong : (r : Got Counts) {p : ℕ} → r ≡ wrong p → Misplaced p ≡ headOf r
-unfolding headOf
-head-wrong r e = rw e
+  abbrev pub thenEdgeCount : Num → Num
+  thenEdgeCount x = thenNum x (oneAt edgesKey edgesForm)
 
-pub head-counted : (r : Got Counts) {c : Counts} {n : ℕ} → r ≡ got c n → Counted c n ≡ headOf r
-unfolding headOf
-head-counted r e = rw e
+  abbrev pub thenRefCount : Num → Num
+  thenRefCount x = thenNum x (oneAt refsKey refsForm)
 
+  abbrev pub headIs : Num → Num → Num → Num → Head
+  headIs a n m (Missing p) = Misplaced p
+  headIs a n m (Is r i) = Counted (record { start = valueOf a; nodes = valueOf n; edges = valueOf m; refs = r }) i
+
+  abbrev told : Num → Head
+  told e =
+      headIs (thenStart e) (thenNodeCount (thenStart e)) (thenEdgeCount (thenNodeCount (thenStart e)))
+      (thenRefCount (thenEdgeCount (thenNodeCount (thenStart e))))
+
+  head-is : told anEdition ≡ headOf (planAt headPlan s 0)
+  unfolding headPlan planAt andThen oneOf thenNum headOf
+  head-is =
+      by-got (linesAt editionKey editionForm s 1 0)
+      (λ es i e₀. rw e₀ (by-got (linesAt startKey startForm s 1 i)
+      (λ ss j e₁. rw e₁ (by-got (linesAt nodesKey nodesForm s 1 j)
+      (λ ns k e₂. rw e₂ (by-got (linesAt edgesKey edgesForm s 1 k)
+      (λ ms l e₃. rw e₃ (by-got (linesAt refsKey refsForm s 1 l) (λ rs q e₄. rw e₄) (λ p e₄. rw e₄)))
+      (λ p e₃. rw e₃)))
+      (λ p e₂. rw e₂)))
+      (λ p e₁. rw e₁)))
+      (λ p e₀. rw e₀)
+
+  module _ {e a n m k : Num} (p₀ : e ≡ anEdition) (p₁ : a ≡ thenStart e) (p₂ : n ≡ thenNodeCount a)
+      (p₃ : m ≡ thenEdgeCount n) (p₄ : k ≡ thenRefCount m) where
+    head-told : headIs a n m k ≡ headOf (planAt headPlan s 0)
+    head-told = rw (p₄, p₃, p₂, p₁, p₀) head-is
+
+    pub head-misplaced : {p : ℕ} → k ≡ Missing p → Misplaced p ≡ headOf (planAt headPlan s 0)
+    head-misplaced q = ap (headIs a n m) (sym q) ∙ head-told
+
+    pub head-counted : {r i : ℕ} {x y z : ℕ} → k ≡ Is r i → x ≡ valueOf a → y ≡ valueOf n → z ≡ valueOf m
+        → Counted (record { start = x; nodes = y; edges = z; refs = r }) i ≡ headOf (planAt headPlan s 0)
+    head-counted q f g h = rw (f, g, h) (ap (headIs a n m) (sym q) ∙ head-told)
+
+-- what its reader answers
 pub misplaced-head : (r : Got Counts) (p : ℕ) → headOf r ≡ Misplaced p → r ≡ wrong p
 unfolding headOf
 misplaced-head (got c n) p e = let z : _≡_ {A = ℕ} 0 1 = cc in absurd (omega arith)
@@ -52,19 +114,10 @@ unfolding headOf
 counted-head (got d m) c n e = let h : d ≡ c = cc in let k : m ≡ n = cc in ap₂ got h k
 counted-head (wrong q) c n e = let z : _≡_ {A = ℕ} 0 1 = cc in absurd (omega arith)
 
--- ---- and of the rows
-
-abbrev pub refRows : Counts → List ℕ → List ℕ → Plan Tables
-refRows c ns es =
-    lines refKey refForm (c .refs) λ rs. stop (record { start = c .start; nodes = ns; edges = es; refs = rs })
-
-abbrev pub edgeRows : Counts → List ℕ → Plan Tables
-edgeRows c ns = lines edgeKey edgeForm (c .edges) λ es. refRows c ns es
+-- ---- the whole text
 
 abbrev pub rows : List ℕ → Counts → ℕ → Got Tables
 rows s c at = planAt (rowsPlan c) s at
-
--- ---- the whole text
 
 -- after its first lines, the text is its rows
 pub read-counted : (s : List ℕ) (c : Counts) (at : ℕ) → planAt headPlan s 0 ≡ got c at
@@ -76,74 +129,32 @@ pub read-misplaced : (s : List ℕ) (p : ℕ) → planAt headPlan s 0 ≡ wrong 
 unfolding readText
 read-misplaced s p e = then-wrong _ _ (follow-at headPlan rowsPlan s 0 ∙ then-wrong _ _ e)
 
--- ---- the reader that keeps no numbers: what it has passed up to place n, and what it answers
+-- ---- the rows, by a reader that keeps no numbers
 
-pub record NodesRead (s : List ℕ) (c : Counts) (at n : ℕ) : Type 0 where
-  pub nodes : List ℕ
-  pub along : Along (rowsPlan c) s at (edgeRows c nodes) n
+module _ (s : List ℕ) (c : Counts) (at : ℕ) where
+  abbrev pub afterNodes : Ended
+  afterNodes = endOf (linesAt nodeKey nodeForm s (c .nodes) at)
 
-pub record EdgesRead (s : List ℕ) (c : Counts) (at n : ℕ) : Type 0 where
-  pub nodes : List ℕ
-  pub edges : List ℕ
-  pub along : Along (rowsPlan c) s at (refRows c nodes edges) n
+  abbrev pub thenEdges : Ended → Ended
+  thenEdges x = thenEnded x (λ i. endOf (linesAt edgeKey edgeForm s (c .edges) i))
 
-pub record RowsRead (s : List ℕ) (c : Counts) (at n : ℕ) : Type 0 where
-  pub tables : Tables
-  pub all : rows s c at ≡ got tables n
+  abbrev pub thenRefs : Ended → Ended
+  thenRefs x = thenEnded x (λ i. endOf (linesAt refKey refForm s (c .refs) i))
 
--- a run of lines, by the form that its reader was lent
-scanned : (k : List ℕ) (g : Form) (s : List ℕ) (m i : ℕ) {form : Form} {r v : Ended} → form ≡ g
-    → r ≡ endOf (linesAt k form s m i)
-    → r ≡ v
-    → endOf (linesAt k g s m i) ≡ v
-scanned k g s m i p e q = sym (rw p at e) ∙ q
+  scan-is : thenEnded (thenRefs (thenEdges afterNodes)) (endAt s) ≡ endOf (whole s (rows s c at))
+  unfolding rowsPlan planAt andThen endOf thenEnded
+  scan-is =
+      by-got (linesAt nodeKey nodeForm s (c .nodes) at)
+      (λ ns i e. rw e (by-got (linesAt edgeKey edgeForm s (c .edges) i)
+      (λ es j g. rw g (by-got (linesAt refKey refForm s (c .refs) j)
+      (λ rs k h. rw h (by-test (eqb k (length s)) (λ t. rw t) (λ t. rw t)))
+      (λ p h. rw h)))
+      (λ p g. rw g)))
+      (λ p e. rw e)
 
--- what is wrong in the rows is wrong in all that is read
-scan-wrong : (s : List ℕ) (c : Counts) (at : ℕ) {r : Ended} {p : ℕ} → r ≡ Wrong p → rows s c at ≡ wrong p
-    → r ≡ endOf (whole s (rows s c at))
-scan-wrong s c at q e = q ∙ sym (end-wrong _ (then-wrong _ (rows s c at) e))
-
-module _ (s : List ℕ) (c : Counts) (at : ℕ) (h : at ≤ length s) {form : Form} {r : Ended} (p : form ≡ nodeForm)
-    (e : r ≡ endOf (linesAt nodeKey form s (c .nodes) at)) where
-  pub nodes-read : {n : ℕ} → r ≡ At n → NodesRead s c at n
-  unfolding rowsPlan
-  nodes-read q =
-      let l = scanned nodeKey nodeForm s (c .nodes) at p e q in
-      record { nodes = _; along = along-lines (along-none (rowsPlan c) s at h) l }
-
-  pub nodes-wrong : {m : ℕ} → r ≡ Wrong m → r ≡ endOf (whole s (rows s c at))
-  unfolding rowsPlan
-  nodes-wrong q =
-      let l = scanned nodeKey nodeForm s (c .nodes) at p e q in
-      scan-wrong s c at q (wrong-lines (along-none (rowsPlan c) s at h) l)
-
-module _ {s : List ℕ} {c : Counts} {at i : ℕ} (x : NodesRead s c at i) {form : Form} {r : Ended} (p : form ≡ edgeForm)
-    (e : r ≡ endOf (linesAt edgeKey form s (c .edges) i)) where
-  pub edges-read : {n : ℕ} → r ≡ At n → EdgesRead s c at n
-  edges-read q =
-      let l = scanned edgeKey edgeForm s (c .edges) i p e q in
-      record { nodes = x .nodes; edges = _; along = along-lines (x .along) l }
-
-  pub edges-wrong : {m : ℕ} → r ≡ Wrong m → r ≡ endOf (whole s (rows s c at))
-  edges-wrong q =
-      scan-wrong s c at q (wrong-lines (x .along) (scanned edgeKey edgeForm s (c .edges) i p e q))
-
-module _ {s : List ℕ} {c : Counts} {at i : ℕ} (x : EdgesRead s c at i) {form : Form} {r : Ended} (p : form ≡ refForm)
-    (e : r ≡ endOf (linesAt refKey form s (c .refs) i)) where
-  pub refs-read : {n : ℕ} → r ≡ At n → RowsRead s c at n
-  refs-read q =
-      let l = scanned refKey refForm s (c .refs) i p e q in
-      record { tables = _; all = along-stop (along-lines (x .along) l) }
-
-  pub refs-wrong : {m : ℕ} → r ≡ Wrong m → r ≡ endOf (whole s (rows s c at))
-  refs-wrong q = scan-wrong s c at q (wrong-lines (x .along) (scanned refKey refForm s (c .refs) i p e q))
-
-module _ {s : List ℕ} {c : Counts} {at n : ℕ} (x : RowsRead s c at n) where
-  pub scan-end : n ≡ length s → At n ≡ endOf (whole s (rows s c at))
-  scan-end h = sym (end-got _ (whole-end s _ (x .tables) n (x .all) h))
-
-  pub scan-more : (n ≡ length s → ⊥) → Wrong n ≡ endOf (whole s (rows s c at))
-  scan-more h = sym (end-wrong _ {p = n} (then-got _ _ (x .all) ∙ rw (ne-eqb n (length s) h)))
+  pub scan-rows : {x y z r : Ended} → x ≡ afterNodes → y ≡ thenEdges x → z ≡ thenRefs y → r ≡ thenEnded z (endAt s)
+      → r ≡ endOf (whole s (rows s c at))
+  scan-rows a b d e = e ∙ rw (d, b, a) scan-is
 
 pub scan-all : {A : Type 0} (s : List ℕ) (r : Got A) (n : ℕ) → endOf (whole s r) ≡ At n
     → (a : A) × (r ≡ got a n) × (whole s r ≡ got a n)

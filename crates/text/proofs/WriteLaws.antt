@@ -1,85 +1,137 @@
--- What write text leaves, case by case. Assumes nothing.
+-- Write text: its parts, and what it leaves, case by case. Assumes nothing.
 use mathlib.Core.Bool.{true, false, false≢true}
-use mathlib.Core.List.{List}
-use mathlib.Core.Path.{_≡_, sym, subst, _∙_}
-use Prim.Native.Nat.{ℕ, _≤_, _<_}
+use mathlib.Core.List.{List, append-nil}
+use mathlib.Core.Path.{_≡_, sym, ap, subst, _∙_}
+use Prim.Native.Nat.{ℕ, _+_, _≤_, _<_}
 use native.Mathlib.Omega.{arith}
 use lib.ListN.{length}
+use lib.Seq.{length-sets}
 use Rattle.ground.specs.Stores.{Put}
-use Rattle.ground.proofs.ListLaws.{sets-front}
+use Rattle.ground.proofs.ListLaws.{sets-front, put-append}
 use Rattle.ground.proofs.TestLaws.{by-test}
 use Rattle.answers.specs.declared.Answer.{Answer}
 use Rattle.answers.specs.declared.Answer.the-variants.{Done, Size, TextRoom}
 use Rattle.answers.specs.Numbers.{refuses}
-use Rattle.tables.specs.Rows.{nodeWidth, edgeWidth, refWidth}
-use Rattle.tables.specs.Rules.{leastNodes, mostNodes, mostEdges, mostRefs, Sizes}
-use Rattle.tables.specs.Says.{nodesFit, edgesFit, refsFit, sizesSay, allSizesSay, historySays}
+use Rattle.tables.specs.Tables.{Table, Tables}
+use Rattle.tables.specs.Sizes.{Sizes, nodesFit, edgesFit, refsFit}
 use Rattle.tables.specs.Gives.{Gives}
-use Rattle.tables.proofs.SaysLaws.{size-tells, size-most, sizes-pass, all-sizes-pass}
-use Rattle.tables.proofs.GivesLaws.{gives-says}
-use Rattle.lines.specs.Sizes.{Long}
-use Rattle.text.specs.Text.{Tables, textOf}
-use Rattle.text.specs.Sizes.{Fit, mostText}
+use Rattle.tables.specs.Says.{sizesSay}
+use Rattle.tables.proofs.GivesLaws.{gives-says, sizes-pass, sizes-refuse}
+use Rattle.lines.specs.Lines.{oneLine, joined}
+use Rattle.text.specs.declared.forms.Counts.{Counts}
+use Rattle.text.specs.Text.{
+  edition,
+  editionKey,
+  startKey,
+  nodesKey,
+  edgesKey,
+  refsKey,
+  nodeKey,
+  edgeKey,
+  refKey,
+  nodeForm,
+  edgeForm,
+  refForm,
+  countsOf,
+  headLines,
+  rowLines,
+  textOf,
+}
+use Rattle.text.specs.Sizes.{Counted, Fit, RowsFit, headBytes, rowBytes, mostHead, mostRowBytes}
 use Rattle.text.specs.Answers.{Written, out-of-size, short, wrote}
+use Rattle.text.proofs.SizeLaws.{tableText, head-length, rows-text, text-parts, text-length}
+
+-- ---- the parts
+
+module _ (c : Counts) {o o₁ o₂ o₃ o₄ o₅ : List ℕ} {i i₁ i₂ i₃ i₄ i₅ : ℕ} where
+  pub head-put : Put o i (oneLine editionKey edition) o₁ i₁ → Put o₁ i₁ (oneLine startKey (c .start)) o₂ i₂
+      → Put o₂ i₂ (oneLine nodesKey (c .nodes)) o₃ i₃ → Put o₃ i₃ (oneLine edgesKey (c .edges)) o₄ i₄
+      → Put o₄ i₄ (oneLine refsKey (c .refs)) o₅ i₅ → Put o i (joined (headLines c)) o₅ i₅
+  unfolding joined
+  head-put a b n m k =
+      simp append-nil (put-append a (put-append b (put-append n (put-append m k))))
+
+-- the start stands in no row
+abbrev tables : Table → Table → Table → Tables
+tables x y z = record { start = 0; nodes = x; edges = y; refs = z }
+
+module _ (x y z : Table) {o o₁ o₂ o₃ : List ℕ} {i i₁ i₂ i₃ : ℕ} where
+  pub rows-put : Put o i (tableText nodeKey nodeForm x) o₁ i₁ → Put o₁ i₁ (tableText edgeKey edgeForm y) o₂ i₂
+      → Put o₂ i₂ (tableText refKey refForm z) o₃ i₃ → Put o i (joined (rowLines (tables x y z))) o₃ i₃
+  rows-put n m k = rw (rows-text (tables x y z)) (put-append n (put-append m k))
+
+text-put : (t : Tables) {o o₁ o₂ : List ℕ} {i i₁ i₂ : ℕ} → Put o i (joined (headLines (countsOf t))) o₁ i₁
+    → Put o₁ i₁ (joined (rowLines t)) o₂ i₂ → Put o i (textOf t) o₂ i₂
+text-put t a b = rw (text-parts t) (put-append a b)
+
+text-long : (t : Tables) {h b : ℕ} → Counted (headBytes (countsOf t)) mostHead h → Counted (rowBytes t) mostRowBytes b
+    → h + b ≡ length (textOf t)
+text-long t head rows = omega (arith, text-length t, head .count, rows .count)
+
+-- after the first lines, the rows have room
+pub rows-ready : {t : Tables} {h b : ℕ} {out out₁ : List ℕ} {i : ℕ} → Fit t
+    → Counted (headBytes (countsOf t)) mostHead h → Counted (rowBytes t) mostRowBytes b → h + b ≤ length out
+    → Put out 0 (joined (headLines (countsOf t))) out₁ i → RowsFit t i out₁
+rows-ready {t} {out = out} fit head rows l p =
+    record {
+      tables = fit;
+      room = omega (
+        arith,
+        head .count,
+        rows .count,
+        head-length (countsOf t),
+        p .after,
+        ap length (p .held) ∙ length-sets out 0 (joined (headLines (countsOf t))),
+      );
+    }
 
 -- ---- the sizes
 
-module _ (ns es rs : List ℕ) where
-  pub sizes-fit : refuses (allSizesSay ns es rs) ≡ false → Fit ns es rs
+abbrev pub sizes : Tables → Answer
+sizes t = sizesSay (t .nodes) (t .edges) (t .refs)
+
+size-named : (t : Tables) → refuses (sizes t) ≡ true → (p : ℕ) × (sizes t ≡ Size p)
+unfolding sizesSay
+size-named t e =
+    by-test (nodesFit (t .nodes))
+    (λ a. by-test (edgesFit (t .edges))
+    (λ b. by-test (refsFit (t .refs)) (λ d. absurd (false≢true (simp (a, b, d) at e))) (λ d. (2, simp (a, b, d))))
+    (λ b. (1, simp (a, b))))
+    (λ a. (0, simp a))
+
+module _ {t : Tables} {a : Answer} (says : a ≡ sizes t) where
+  pub sizes-fit : refuses a ≡ false → Fit t
   sizes-fit e =
-      let (both, r) = all-sizes-pass ns es rs e in
-      let (n, m) = sizes-pass ns es both in
+      let s = sizes-pass t (ap refuses (sym says) ∙ e) in
       record {
-        nodes = size-most nodeWidth leastNodes mostNodes (length ns) n;
-        edges = size-most edgeWidth 0 mostEdges (length es) m;
-        refs = size-most refWidth 0 mostRefs (length rs) r;
+        nodes = omega (arith, s .nodes .whole);
+        edges = omega (arith, s .edges .whole);
+        refs = omega (arith, s .refs .whole);
+        nodes-few = s .nodes .most;
+        edges-few = s .edges .most;
+        refs-few = s .refs .most;
       }
 
-  pub sizes-right : refuses (allSizesSay ns es rs) ≡ false → Sizes ns es rs
-  sizes-right e =
-      let (both, r) = all-sizes-pass ns es rs e in
-      let (n, m) = sizes-pass ns es both in (
-        size-tells nodeWidth leastNodes mostNodes (length ns) (omega arith) .0 n,
-        size-tells edgeWidth 0 mostEdges (length es) (omega arith) .0 m,
-        size-tells refWidth 0 mostRefs (length rs) (omega arith) .0 r,
-      )
+  -- ---- the cases
 
-  size-named : refuses (allSizesSay ns es rs) ≡ true → (p : ℕ) × (allSizesSay ns es rs ≡ Size p)
-  unfolding allSizesSay sizesSay
-  size-named e =
-      by-test (nodesFit ns)
-      (λ a. by-test (edgesFit es)
-      (λ b. by-test (refsFit rs) (λ d. absurd (false≢true (simp (a, b, d) at e))) (λ d. (2, simp (a, b, d))))
-      (λ b. (1, simp (a, b))))
-      (λ a. (0, simp a))
-
-  size-first : (start : ℕ) → refuses (allSizesSay ns es rs) ≡ true → historySays start ns es rs ≡ allSizesSay ns es rs
-  unfolding historySays
-  size-first start e = rw e
-
--- ---- the cases
-
-module _ (t : Tables) (out : List ℕ) where
-  abbrev pub sizes : Answer
-  sizes = allSizesSay (t .nodes) (t .edges) (t .refs)
-
-  pub written-size : refuses sizes ≡ true → Written t out sizes out
+  pub written-size : {out : List ℕ} → refuses a ≡ true → Written t out a out
   written-size e =
-      let (p, q) = size-named (t .nodes) (t .edges) (t .refs) e in
-      let first = size-first (t .nodes) (t .edges) (t .refs) (t .start) e in
-      let gives = gives-says (t .start) (t .nodes) (t .edges) (t .refs) in
-      rw q (out-of-size (subst (Gives (t .start) (t .nodes) (t .edges) (t .refs)) (first ∙ q) gives))
+      let r = ap refuses (sym says) ∙ e in
+      let (p, q) = size-named t r in
+      rw (says ∙ q) (out-of-size (subst (Gives t) (sym (sizes-refuse t r) ∙ q) (gives-says t)))
 
-  module _ (fit : refuses sizes ≡ false) (k : ℕ) (l : Long (textOf t) mostText k) where
-    right : Sizes (t .nodes) (t .edges) (t .refs)
-    right = sizes-right (t .nodes) (t .edges) (t .refs) fit
+  module _ (e : refuses a ≡ false) {h b : ℕ} (head : Counted (headBytes (countsOf t)) mostHead h)
+      (rows : Counted (rowBytes t) mostRowBytes b) where
+    right : Sizes t
+    right = sizes-pass t (ap refuses (sym says) ∙ e)
 
-    pub written-short : length out < k → Written t out (TextRoom k) out
-    written-short h =
-        subst (λ (n : ℕ). Written t out (TextRoom n) out) (sym (l .count)) (short right (omega (arith, l .count)))
+    pub written-short : {out : List ℕ} → length out < h + b → Written t out (TextRoom (h + b)) out
+    written-short l = let long = text-long t head rows in rw long (short right (omega arith))
 
-    pub written-all : (out′ : List ℕ) (n : ℕ) → k ≤ length out → Put out 0 (textOf t) out′ n
-        → Written t out (Done 0 k) out′
-    written-all out′ n h p =
-        let room : length (textOf t) ≤ length out = omega (arith, l .count) in
-        rw (l .count, p .held ∙ sets-front out (textOf t) room) (wrote right room)
+    pub written-all : {out out₁ out₂ : List ℕ} {i n : ℕ} → h + b ≤ length out
+        → Put out 0 (joined (headLines (countsOf t))) out₁ i → Put out₁ i (joined (rowLines t)) out₂ n
+        → Written t out (Done 0 (h + b)) out₂
+    written-all {out} l p q =
+        let long = text-long t head rows in
+        let room : length (textOf t) ≤ length out = omega arith in
+        rw (long, text-put t p q .held ∙ sets-front out (textOf t) room) (wrote right room)

@@ -15,11 +15,12 @@ use Rattle.ground.specs.Lists.{front}
 use Rattle.answers.specs.declared.Answer.{Answer}
 use Rattle.answers.specs.declared.Answer.the-variants.{Done, Size, Room, Text, TextRoom}
 use Rattle.answers.specs.Refusals.{passed}
-use Rattle.tables.specs.Rows.{nodeWidth, edgeWidth, refWidth, nodeCount, edgeCount, refCount}
-use Rattle.tables.specs.Rules.{Sizes}
+use Rattle.tables.specs.Rows.{nodeWidth, edgeWidth, refWidth}
+use Rattle.tables.specs.Tables.{Tables, lent}
+use Rattle.tables.specs.Sizes.{Sizes}
 use Rattle.tables.specs.Gives.{Gives}
 use Rattle.text.specs.declared.read.Reading.{Reading}
-use Rattle.text.specs.Text.{Tables, Lendable, lent, textOf}
+use Rattle.text.specs.Text.{Lendable, textOf}
 use Rattle.text.specs.Place.{FirstWrong}
 
 -- [01:What the calls answer] Write text "judges table sizes only: 1, then 32. Otherwise place is the byte count, and
@@ -27,10 +28,9 @@ use Rattle.text.specs.Place.{FirstWrong}
 -- lent table or buffer."
 module _ (t : Tables) (out : List ℕ) where
   pub data Written : Answer → List ℕ → Type 0 where
-    out-of-size : {p : ℕ} → Gives (t .start) (t .nodes) (t .edges) (t .refs) (Size p) → Written (Size p) out
-    short : Sizes (t .nodes) (t .edges) (t .refs) → length out < length (textOf t)
-        → Written (TextRoom (length (textOf t))) out
-    wrote : Sizes (t .nodes) (t .edges) (t .refs) → length (textOf t) ≤ length out
+    out-of-size : {p : ℕ} → Gives t (Size p) → Written (Size p) out
+    short : Sizes t → length out < length (textOf t) → Written (TextRoom (length (textOf t))) out
+    wrote : Sizes t → length (textOf t) ≤ length out
         → Written (Done 0 (length (textOf t))) (front (textOf t) out)
 
 -- [01:The text] the form: a text is that of tables of 32-bit numbers within the sizes.
@@ -45,30 +45,30 @@ NotOfForm s = (t : Tables) → Accepted s t → ⊥
 
 -- [01:What the calls answer] "the answer also carries start and three counts, which are 0 on refusal"
 abbrev pub nothing : Tables
-nothing = lent 0 [] [] []
+nothing = lent 0 [] 0 [] 0 [] 0
 
 abbrev pub readingOf : Answer → Tables → Reading
 readingOf a t =
     record {
       answer = a;
       start = t .start;
-      nodes = nodeCount (t .nodes);
-      edges = edgeCount (t .edges);
-      refs = refCount (t .refs);
+      nodes = t .nodes .count;
+      edges = t .edges .count;
+      refs = t .refs .count;
     }
 
 -- [01:What the calls answer] "21 (place 0, 1, 2: first table too short)"
 module _ (t : Tables) (n e f : List ℕ) where
   pub record Fits : Type 0 where
-    pub nodes : length (t .nodes) ≤ length n
-    pub edges : length (t .edges) ≤ length e
-    pub refs : length (t .refs) ≤ length f
+    pub nodes : length (t .nodes .numbers) ≤ length n
+    pub edges : length (t .edges .numbers) ≤ length e
+    pub refs : length (t .refs .numbers) ≤ length f
 
   pub data TooShort : ℕ → Type 0 where
-    nodes-short : length n < length (t .nodes) → TooShort 0
-    edges-short : length (t .nodes) ≤ length n → length e < length (t .edges) → TooShort 1
-    refs-short : length (t .nodes) ≤ length n → length (t .edges) ≤ length e → length f < length (t .refs)
-        → TooShort 2
+    nodes-short : length n < length (t .nodes .numbers) → TooShort 0
+    edges-short : length (t .nodes .numbers) ≤ length n → length e < length (t .edges .numbers) → TooShort 1
+    refs-short : length (t .nodes .numbers) ≤ length n → length (t .edges .numbers) ≤ length e
+        → length f < length (t .refs .numbers) → TooShort 2
 
 -- [01:What the calls answer] "Read text: 31, then 21 (place 0, 1, 2: first table too short). Otherwise the rows fill
 -- the front of each table, the rest unchanged, and the answer also carries start and three counts, which are 0 on
@@ -78,9 +78,11 @@ pub data Read (s n e f : List ℕ) : Reading → List ℕ → List ℕ → List 
   wrong-text : {p : ℕ} → NotOfForm s → FirstWrong s p → Read s n e f (readingOf (Text p) nothing) n e f
   no-room : {t : Tables} {k : ℕ} → Accepted s t → TooShort t n e f k → Read s n e f (readingOf (Room 0 k) nothing) n e f
   took : {t : Tables} → Accepted s t → Fits t n e f
-      → Read s n e f (readingOf passed t) (front (t .nodes) n) (front (t .edges) e) (front (t .refs) f)
+      → Read s n e f (readingOf passed t) (front (t .nodes .numbers) n) (front (t .edges .numbers) e)
+      (front (t .refs .numbers) f)
 
 -- where a caller finds what was read
 abbrev pub fronts : Reading → List ℕ → List ℕ → List ℕ → Tables
 fronts r n e f =
-    lent (r .start) (take (r .nodes * nodeWidth) n) (take (r .edges * edgeWidth) e) (take (r .refs * refWidth) f)
+    lent (r .start) (take (r .nodes * nodeWidth) n) (r .nodes) (take (r .edges * edgeWidth) e) (r .edges)
+    (take (r .refs * refWidth) f) (r .refs)

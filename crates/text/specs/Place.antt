@@ -7,7 +7,8 @@ use Prim.Native.Nat.{ℕ, _≤_}
 use lib.ListN.{take}
 use Rattle.ground.specs.Stands.{Stands}
 use Rattle.lines.specs.Lines.{joined}
-use Rattle.text.specs.Text.{Tables, Lendable, textLines}
+use Rattle.tables.specs.Tables.{Tables}
+use Rattle.text.specs.Text.{Lendable, textLines}
 
 abbrev pub firstLines : ℕ → Tables → List ℕ
 firstLines j t = joined (take j (textLines t))

@@ -1,17 +1,60 @@
 -- How long the text of tables within the sizes is, so that counts and places of it are 32-bit numbers.
---   Fit ns es rs   the tables have at most so many rows
+--   headBytes, rowBytes   how many bytes the first five lines have, and the rows
+--   Fit L                 the tables hold the rows that are counted, and these are few
+--   RowsFit L at out      so do they, and there is room for their text from place at on
 --   mostHead, mostRowBytes, mostText   at most so many bytes in the first five lines, in the rows, in the text
+--   Counted n most r      r is n, and at most `most`
 -- Assumes nothing.
 use mathlib.Core.List.{List}
+use mathlib.Core.Path.{_≡_}
 use Prim.Native.Nat.{ℕ, _+_, _*_, _≤_}
-use Rattle.tables.specs.Rows.{nodeCount, edgeCount, refCount}
-use Rattle.tables.specs.Rules.{mostNodes, mostEdges, mostRefs}
+use lib.ListN.{length}
+use Rattle.tables.specs.Rows.{HasNodes, HasEdges, HasRefs}
+use Rattle.tables.specs.Tables.{Tables}
+use Rattle.tables.specs.Sizes.{mostNodes, mostEdges, mostRefs}
+use Rattle.lines.specs.Lines.{oneLine, linesText}
 use Rattle.lines.specs.Sizes.{mostLine}
+use Rattle.text.specs.declared.forms.Counts.{Counts}
+use Rattle.text.specs.Text.{
+  edition,
+  editionKey,
+  startKey,
+  nodesKey,
+  edgesKey,
+  refsKey,
+  nodeKey,
+  edgeKey,
+  refKey,
+  nodeForm,
+  edgeForm,
+  refForm,
+}
 
-pub record Fit (ns es rs : List ℕ) : Type 0 where
-  pub nodes : nodeCount ns ≤ mostNodes
-  pub edges : edgeCount es ≤ mostEdges
-  pub refs : refCount rs ≤ mostRefs
+abbrev pub headBytes : Counts → ℕ
+headBytes c =
+    length (oneLine editionKey edition)
+    + length (oneLine startKey (c .start))
+    + length (oneLine nodesKey (c .nodes))
+    + length (oneLine edgesKey (c .edges))
+    + length (oneLine refsKey (c .refs))
+
+abbrev pub rowBytes : Tables → ℕ
+rowBytes t =
+    length (linesText nodeKey nodeForm (t .nodes .count) (t .nodes .numbers))
+    + length (linesText edgeKey edgeForm (t .edges .count) (t .edges .numbers))
+    + length (linesText refKey refForm (t .refs .count) (t .refs .numbers))
+
+pub record Fit (L : Tables) : Type 0 where
+  pub nodes : HasNodes (L .nodes .numbers) (L .nodes .count)
+  pub edges : HasEdges (L .edges .numbers) (L .edges .count)
+  pub refs : HasRefs (L .refs .numbers) (L .refs .count)
+  pub nodes-few : L .nodes .count ≤ mostNodes
+  pub edges-few : L .edges .count ≤ mostEdges
+  pub refs-few : L .refs .count ≤ mostRefs
+
+pub record RowsFit (L : Tables) (at : ℕ) (out : List ℕ) : Type 0 where
+  pub tables : Fit L
+  pub room : at + rowBytes L ≤ length out
 
 abbrev pub mostHead : ℕ
 mostHead = 5 * mostLine
@@ -21,3 +64,7 @@ mostRowBytes = (mostNodes + mostEdges + mostRefs) * mostLine
 
 abbrev pub mostText : ℕ
 mostText = mostHead + mostRowBytes
+
+pub record Counted (n most r : ℕ) : Type 0 where
+  pub count : r ≡ n
+  pub small : r ≤ most

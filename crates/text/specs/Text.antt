@@ -1,12 +1,12 @@
 -- The text of tables, edition 1.
---   Tables             a start and three tables of numbers
---   lent               the tables that are lent to a call
 --   Small vs           all of the numbers are 32-bit numbers
---   Lendable t         the tables are within the sizes, and their numbers are 32-bit numbers
+--   Lendable t         the tables are just their rows, as many as the sizes allow, of 32-bit numbers; LendableTable: a
+--                      table is
 --   edition            the number of the edition
 --   editionKey, startKey, nodesKey, edgesKey, refsKey   the keys of the first five lines
 --   nodeKey, edgeKey, refKey                            the keys of the rows
 --   nodeForm, edgeForm, refForm                         the forms of the rows
+--   countsOf           what the first five lines say of tables; counted: the tables of which they say it
 --   headLines          the first five lines; rowLines: the lines of the rows
 --   textLines, textOf  the lines of the text, each with its LF; the text
 -- Assumes nothing.
@@ -15,32 +15,30 @@ use mathlib.Core.List.{List, [], _∷_, _++_}
 use Prim.Native.Nat.{ℕ, _≤_}
 use lib.ListN.{getD}
 use Rattle.tables.specs.Instants.{Now}
-use Rattle.tables.specs.Rows.{nodeWidth, edgeWidth, refWidth, nodeCount, edgeCount, refCount}
-use Rattle.tables.specs.Rules.{NodesSize, EdgesSize, RefsSize}
+use Rattle.tables.specs.Rows.{nodeWidth, edgeWidth, refWidth}
+use Rattle.tables.specs.Tables.{Table, Tables, lent}
+use Rattle.tables.specs.Sizes.{leastNodes, mostNodes, mostEdges, mostRefs, Whole}
 use Rattle.lines.specs.declared.form.Form.{Form}
 use Rattle.lines.specs.Lines.{rowForm, oneLine, linesOf, joined}
-
-pub record Tables : Type 0 where
-  pub start : ℕ
-  pub nodes : List ℕ
-  pub edges : List ℕ
-  pub refs : List ℕ
-
-abbrev pub lent : ℕ → List ℕ → List ℕ → List ℕ → Tables
-lent start ns es rs = record { start = start; nodes = ns; edges = es; refs = rs }
+use Rattle.text.specs.declared.forms.Counts.{Counts}
 
 -- [01:Instants and tables] "Tables are lent as 32-bit numbers."
 abbrev pub Small : List ℕ → Type 0
 Small vs = (i : ℕ) → getD vs i 0 ≤ Now
 
+-- where rows have w numbers, and there are lo to hi of them
+-- just its rows, and within the sizes: a text's tables stay so also where a lent slice may hold more than its rows
+pub record LendableTable (w lo hi : ℕ) (x : Table) : Type 0 where
+  pub small : Small (x .numbers)
+  pub whole : Whole w x
+  pub least : lo ≤ x .count
+  pub most : x .count ≤ hi
+
 pub record Lendable (t : Tables) : Type 0 where
   pub start : t .start ≤ Now
-  pub nodes : Small (t .nodes)
-  pub edges : Small (t .edges)
-  pub refs : Small (t .refs)
-  pub nodes-size : NodesSize (t .nodes)
-  pub edges-size : EdgesSize (t .edges)
-  pub refs-size : RefsSize (t .refs)
+  pub nodes : LendableTable nodeWidth leastNodes mostNodes (t .nodes)
+  pub edges : LendableTable edgeWidth 0 mostEdges (t .edges)
+  pub refs : LendableTable refWidth 0 mostRefs (t .refs)
 
 -- [01:The text] "Lines `key=value` .. in this order: `edition=1`, `start=`, `nodes=`, `edges=`, `refs=`, then all
 -- `node=` lines, `edge=` lines, `ref=` lines, as many as counted."
@@ -81,25 +79,30 @@ edgeForm = rowForm edgeWidth true
 abbrev pub refForm : Form
 refForm = rowForm refWidth true
 
-abbrev pub headLines : ℕ → ℕ → ℕ → ℕ → List (List ℕ)
-headLines start nodes edges refs =
+abbrev pub countsOf : Tables → Counts
+countsOf t =
+    record { start = t .start; nodes = t .nodes .count; edges = t .edges .count; refs = t .refs .count }
+
+abbrev pub counted : Counts → List ℕ → List ℕ → List ℕ → Tables
+counted c ns es rs = lent (c .start) ns (c .nodes) es (c .edges) rs (c .refs)
+
+abbrev pub headLines : Counts → List (List ℕ)
+headLines c =
     oneLine editionKey edition
-    ∷ oneLine startKey start
-    ∷ oneLine nodesKey nodes
-    ∷ oneLine edgesKey edges
-    ∷ oneLine refsKey refs
+    ∷ oneLine startKey (c .start)
+    ∷ oneLine nodesKey (c .nodes)
+    ∷ oneLine edgesKey (c .edges)
+    ∷ oneLine refsKey (c .refs)
     ∷ []
 
-abbrev pub rowLines : List ℕ → List ℕ → List ℕ → List (List ℕ)
-rowLines ns es rs =
-    linesOf nodeKey nodeForm (nodeCount ns) ns
-    ++ (linesOf edgeKey edgeForm (edgeCount es) es
-    ++ linesOf refKey refForm (refCount rs) rs)
+abbrev pub rowLines : Tables → List (List ℕ)
+rowLines t =
+    linesOf nodeKey nodeForm (t .nodes .count) (t .nodes .numbers)
+    ++ (linesOf edgeKey edgeForm (t .edges .count) (t .edges .numbers)
+    ++ linesOf refKey refForm (t .refs .count) (t .refs .numbers))
 
 abbrev pub textLines : Tables → List (List ℕ)
-textLines t =
-    headLines (t .start) (nodeCount (t .nodes)) (edgeCount (t .edges)) (refCount (t .refs))
-    ++ rowLines (t .nodes) (t .edges) (t .refs)
+textLines t = headLines (countsOf t) ++ rowLines t
 
 abbrev pub textOf : Tables → List ℕ
 textOf t = joined (textLines t)

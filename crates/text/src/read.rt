@@ -1,31 +1,34 @@
 // Read text. All of the text is checked, and the room for it, before anything is written.
 ghost use mathlib.Core.Path.{_≡_};
-ghost use mathlib.Core.Bool.{true};
 ghost use Prim.Native.Nat.{_*_, _≤_};
 ghost use lib.ListN.{length};
 ghost use Rattle.tables.specs.Rows.{nodeWidth, edgeWidth, refWidth};
-ghost use Rattle.lines.specs.Reads.{got, endOf, isGot, gotOf};
+ghost use Rattle.lines.specs.Reads.{got, endOf, gotOf, thenEnded};
 ghost use Rattle.lines.specs.Plans.{planAt};
-ghost use Rattle.text.specs.Reads.{countsPlan, headPlan, rowsPlan, whole, headOf, roomSays, Held};
+ghost use Rattle.text.specs.Reads.{headPlan, rowsPlan, valueOf, headOf, whole, endAt};
+ghost use Rattle.text.specs.Reads.{roomSays, Announced, Held};
 ghost use Rattle.text.specs.Answers.{nothing, readingOf, Read};
+use super::forms::Counts;
+use super::forms::EDGE_FORM;
 use super::forms::EDITION;
-use super::forms::edge_form;
-use super::forms::node_form;
-use super::forms::ref_form;
+use super::forms::NODE_FORM;
+use super::forms::REF_FORM;
 use answers::Answer;
 use decimals::Num;
 use lines::read::Ended;
 use lines::read::check_lines;
 use lines::read::fill_lines;
 use lines::read::read_one;
-use tables::judge::LEAST_NODES;
-use tables::judge::MOST_EDGES;
-use tables::judge::MOST_NODES;
-use tables::judge::MOST_REFS;
+use lines::read::then_lines;
+use lines::read::then_one;
 use tables::label::NOW;
 use tables::rows::EDGE_WIDTH;
 use tables::rows::NODE_WIDTH;
 use tables::rows::REF_WIDTH;
+use tables::sizes::LEAST_NODES;
+use tables::sizes::MOST_EDGES;
+use tables::sizes::MOST_NODES;
+use tables::sizes::MOST_REFS;
 
 // What read text answers: with the answer, the start and how many rows each table has, 0 where it refuses.
 pub struct Reading {
@@ -36,15 +39,7 @@ pub struct Reading {
     pub refs: u32,
 }
 
-// What the first five lines say.
-struct Counts {
-    start: u32,
-    nodes: u32,
-    edges: u32,
-    refs: u32,
-}
-
-// The first five lines, and the place after them; or the place of the first that is not what must stand there.
+// What the first five lines say, and the place after them; or the place at which they are refused.
 enum Head {
     Counted(Counts, usize),
     Misplaced(usize),
@@ -62,32 +57,14 @@ fn refusal(answer: Answer) -> Reading
     }
 }
 
-// The three counts, from place at on.
-fn read_counts(text: &[u8], at: usize, start: u32) -> Head
-    requires { ⌜ at ≤ length (now text) ⌝ }
-    ensures { λ r. ⌜ r ≡ headOf (planAt (countsPlan start) (now (text .entry)) at) ⌝ }
+// The number that was read, or 0.
+fn value(x: Num) -> u32
+    ensures { λ r. ⌜ r ≡ valueOf x ⌝ }
 {
-    let n = read_one(text, at, b"nodes=", LEAST_NODES as u32, MOST_NODES as u32);
-    let Num::Is(nodes, i) = n else {
-        return Head::Misplaced(at);
-    };
-    let m = read_one(text, i, b"edges=", 0, MOST_EDGES as u32);
-    let Num::Is(edges, j) = m else {
-        return Head::Misplaced(i);
-    };
-    let k = read_one(text, j, b"refs=", 0, MOST_REFS as u32);
-    let Num::Is(refs, after) = k else {
-        return Head::Misplaced(j);
-    };
-    Head::Counted(
-        Counts {
-            start,
-            nodes,
-            edges,
-            refs,
-        },
-        after,
-    )
+    match x {
+        Num::Missing(_) => 0,
+        Num::Is(v, _) => v,
+    }
 }
 
 // The first five lines.
@@ -95,14 +72,38 @@ fn read_head(text: &[u8]) -> Head
     ensures { λ r. ⌜ r ≡ headOf (planAt headPlan (now (text .entry)) 0) ⌝ }
 {
     let e = read_one(text, 0, b"edition=", EDITION, EDITION);
-    let Num::Is(_, i) = e else {
-        return Head::Misplaced(0);
-    };
-    let s = read_one(text, i, b"start=", 0, NOW);
-    let Num::Is(start, j) = s else {
-        return Head::Misplaced(i);
-    };
-    read_counts(text, j, start)
+    let s = then_one(e, text, b"start=", 0, NOW);
+    let n = then_one(s, text, b"nodes=", LEAST_NODES as u32, MOST_NODES as u32);
+    let m = then_one(n, text, b"edges=", 0, MOST_EDGES as u32);
+    let k = then_one(m, text, b"refs=", 0, MOST_REFS as u32);
+    match k {
+        Num::Missing(p) => Head::Misplaced(p),
+        Num::Is(refs, after) => {
+            let c = Counts {
+                start: value(s),
+                nodes: value(n),
+                edges: value(m),
+                refs,
+            };
+            Head::Counted(c, after)
+        }
+    }
+}
+
+// What was read, if the text ends there.
+fn then_end(ended: Ended, text: &[u8]) -> Ended
+    ensures { λ r. ⌜ r ≡ thenEnded ended (endAt (now (text .entry))) ⌝ }
+{
+    match ended {
+        Ended::Wrong(p) => Ended::Wrong(p),
+        Ended::At(i) => {
+            if i == text.len() {
+                Ended::At(i)
+            } else {
+                Ended::Wrong(i)
+            }
+        }
+    }
 }
 
 // Whether the rows that c announces stand from place at on, and nothing after them.
@@ -110,23 +111,10 @@ fn scan_rows(text: &[u8], at: usize, c: Counts) -> Ended
     requires { ⌜ at ≤ length (now text) ⌝ }
     ensures { λ r. ⌜ r ≡ endOf (whole (now (text .entry)) (planAt (rowsPlan c) (now (text .entry)) at)) ⌝ }
 {
-    let x = check_lines(text, at, b"node=", node_form(), c.nodes as usize);
-    let Ended::At(i) = x else {
-        return x;
-    };
-    let y = check_lines(text, i, b"edge=", edge_form(), c.edges as usize);
-    let Ended::At(j) = y else {
-        return y;
-    };
-    let z = check_lines(text, j, b"ref=", ref_form(), c.refs as usize);
-    let Ended::At(k) = z else {
-        return z;
-    };
-    if k == text.len() {
-        Ended::At(k)
-    } else {
-        Ended::Wrong(k)
-    }
+    let nodes = check_lines(text, at, b"node=", NODE_FORM, c.nodes);
+    let edges = then_lines(nodes, text, b"edge=", EDGE_FORM, c.edges);
+    let refs = then_lines(edges, text, b"ref=", REF_FORM, c.refs);
+    then_end(refs, text)
 }
 
 // Whether tables of so many numbers hold the rows that c announces.
@@ -155,15 +143,13 @@ fn fill_rows(
     edges: &mut [u32],
     refs: &mut [u32],
 )
-    requires { ⌜ (at ≤ length (now text)) × (isGot (planAt (rowsPlan c) (now text) at) ≡ true) ⌝ }
-    requires { ⌜ (c .nodes * nodeWidth ≤ length (now nodes)) × (c .edges * edgeWidth ≤ length (now edges))
-        × (c .refs * refWidth ≤ length (now refs)) ⌝ }
+    requires { ⌜ Announced (now text) at c (now nodes) (now edges) (now refs) ⌝ }
     ensures { λ _. ⌜ Held (gotOf nothing (planAt (rowsPlan c) (now (text .entry)) at)) (now (nodes .entry))
         (now (edges .entry)) (now (refs .entry)) (now (nodes .exit)) (now (edges .exit)) (now (refs .exit)) ⌝ }
 {
-    let i = fill_lines(text, at, b"node=", node_form(), c.nodes as usize, nodes);
-    let j = fill_lines(text, i, b"edge=", edge_form(), c.edges as usize, edges);
-    fill_lines(text, j, b"ref=", ref_form(), c.refs as usize, refs);
+    let i = fill_lines(text, at, b"node=", NODE_FORM, c.nodes, nodes);
+    let j = fill_lines(text, i, b"edge=", EDGE_FORM, c.edges, edges);
+    fill_lines(text, j, b"ref=", REF_FORM, c.refs, refs);
 }
 
 // The rows that the first five lines announce.
@@ -181,7 +167,10 @@ fn read_rows(
 {
     let x = scan_rows(text, at, c);
     match x {
-        Ended::Wrong(p) => refusal(Answer::Text(p as u32)),
+        Ended::Wrong(p) => {
+            let place = p as u32;
+            refusal(Answer::Text(place))
+        }
         Ended::At(_) => {
             let room = judge_room(c, nodes.len(), edges.len(), refs.len());
             if room.refuses() {
@@ -205,7 +194,10 @@ pub fn read_text(text: &[u8], nodes: &mut [u32], edges: &mut [u32], refs: &mut [
 {
     let h = read_head(text);
     match h {
-        Head::Misplaced(p) => refusal(Answer::Text(p as u32)),
+        Head::Misplaced(p) => {
+            let place = p as u32;
+            refusal(Answer::Text(place))
+        }
         Head::Counted(c, at) => read_rows(text, at, c, nodes, edges, refs),
     }
 }

@@ -33,22 +33,14 @@ mul-if3 c = search needs
 returns-3 : tie.Need-returns-3
 unfolding roomSays
 returns-3 c =
-    simp (
-      le-ltb _ _ (c .before .before .before .before .if1 .left),
-      le-ltb _ _ (c .before .before .if2 .left),
-      lt-ltb
-          _ _ (c .if3 .taken),
-    )
+    let e = c .before .before in
+    simp (le-ltb _ _ (e .before .before .if1 .left), le-ltb _ _ (e .if2 .left), lt-ltb _ _ (c .if3 .taken))
 
 returns-4 : tie.Need-returns-4
 unfolding roomSays
 returns-4 c =
-    simp (
-      le-ltb _ _ (c .before .before .before .before .if1 .left),
-      le-ltb _ _ (c .before .before .if2 .left),
-      le-ltb
-          _ _ (c .if3 .left),
-    )
+    let e = c .before .before in
+    simp (le-ltb _ _ (e .before .before .if1 .left), le-ltb _ _ (e .if2 .left), le-ltb _ _ (c .if3 .left))
 
 pub judge-room-spec : {M : Type 1} → statement M
 judge-room-spec =

@@ -1,37 +1,61 @@
-use native.Mathlib.Omega.{arith}
+use mathlib.Core.Path.{sym, _∙_}
 use denote.Ref.{now}
-use mathlib.Core.Path.{sym, ap, _∙_}
-use Rattle.lines.proofs.GotLaws.{got-is, got-of}
-use Rattle.answers.specs.Numbers.{refuses}
-use Rattle.text.specs.Answers.{nothing}
-use Rattle.text.proofs.RoundTrip.{write-of-read}
 use Rattle.text.proofs.SizeLaws.{place-short}
-use Rattle.text.proofs.ReadLaws.{head-within, text-wrong, TextRight, text-right, room-asked, room-counted, room-there, counts-told, read-wrong, read-short, read-all}
+use Rattle.text.proofs.ReadLaws.{
+  head-within,
+  text-wrong,
+  TextRight,
+  text-right,
+  read-wrong,
+  room-short,
+  room-announced,
+  room-taken,
+}
 use borrow.Author.Needs.{needs}
+use native.Mathlib.Omega.{arith}
 use Rattle.text.proofs.read.read_rows.Statement.{statement}
 use Rattle.text.proofs.read.read_rows.Tie as tie
 
+-- the places: the start, where the rows were scanned, and where room was judged
+abbrev start : tie.After-slice-known3 → tie.Start
+start c = c .before .before .before .before
+
+abbrev entry : tie.After-scan-rows → tie.Start
+entry c = start (c .before)
+
+abbrev wrong : tie.After-x → tie.After-scan-rows
+wrong c = c .before .before
+
+abbrev judged : tie.After-refuses → tie.After-judge-room
+judged c = c .before
+
+abbrev filled : tie.After-slice-known6 → tie.After-fill-rows
+filled c = c .before .before .before .before .before .before
+
+abbrev room : tie.After-fill-rows-arg3 → tie.Else1
+room c = c .before .before .before
+
 -- the text is right
-right : (c : tie.After-enum-told) →
-    let s = c .before .before .before .before .before .before .before in TextRight (now (s .args .text)) (s .args .c)
-    (s .args .at) (s .pre) (c .enum-told .given .0 .0)
+right : (c : tie.After-enum-told) → let s = entry (c .before .before) in
+    TextRight (now (s .args .text)) (s .args .c) (s .args .at) (s .pre)
 right c =
-    let s = c .before .before .before .before .before .before .before in
-    text-right (now (s .args .text)) (s .args .c) (s .args .at) (s .pre) _
-    (sym (c .before .before .scan-rows .ensures) ∙ c .enum-told .given .1)
+    let r = c .before .before in
+    text-right _ _ _ (entry r .pre) _ (sym (r .scan-rows .ensures) ∙ c .enum-told .given .1)
 
 scan-rows-requires : tie.Need-scan-rows-requires
-scan-rows-requires c κs =
-    let s = c .before .before .before .before in head-within (now (s .args .text)) (s .args .c) (s .args .at) (s .pre)
+scan-rows-requires c κs = head-within _ _ _ (start c .pre)
 
 enum-known-x : tie.Need-enum-known-x
 enum-known-x c = search needs
 
-cast-t11 : tie.Need-cast-t11
-cast-t11 c = let s = c .before .before .before .before .before .before .before .before in
-    let w = text-wrong (now (s .args .text)) (s .args .c) (s .args .at) (s .pre) _
-    (sym (c .before .before .before .scan-rows .ensures) ∙ c .before .x .given .1) in
-    omega (arith, place-short (now (s .args .text)) _ w)
+cast-place : tie.Need-cast-place
+cast-place c =
+    let x = c .before in
+    let r = wrong x in
+    omega (
+      arith,
+      place-short _ _ (text-wrong _ _ _ (entry r .pre) _ (sym (r .scan-rows .ensures) ∙ x .x .given .1)),
+    )
 
 refusal-requires : tie.Need-refusal-requires
 refusal-requires c κs = search needs
@@ -49,36 +73,24 @@ refusal-requires-2 : tie.Need-refusal-requires-2
 refusal-requires-2 c κs = search needs
 
 returns : tie.Need-returns
-returns c = let s = c .before .before .before .before .before .before .before .before .before .before .before in
-    let a = s .args in
-    let x = right (c .before .before .before .before) in
-    let says = c .before .before .before .judge-room .ensures
-    ∙ room-asked (now (a .text)) (a .c) (a .at) (x .tables) (x .right) _ _ _ in
-    let w = sym (c .before .before .refuses .ensures) ∙ c .before .if1 .taken in
-    read-short (now (a .text)) (now (a .nodes)) (now (a .edges)) (now (a .refs)) (write-of-read _ _ _ (x .read)) says w
+returns c =
+    let d = c .before .before in
+    let j = judged d in
+    room-short (right (j .before)) (j .judge-room .ensures) (sym (d .refuses .ensures) ∙ c .before .if1 .taken)
     (c .refusal2 .ensures)
 
 fill-rows-requires : tie.Need-fill-rows-requires
 fill-rows-requires c κs =
-    let s =
-    c .before .before .before .before .before .before .before .before .before .before .before .before .before in
-    let a = s .args in
-    let x = right (c .before .before .before .before .before .before) in
-    let says = c .before .before .before .before .before .judge-room .ensures
-    ∙ room-asked (now (a .text)) (a .c) (a .at) (x .tables) (x .right) _ _ _ in
-    let w = sym (ap refuses says) ∙ sym (c .before .before .before .before .refuses .ensures)
-    ∙ c .before .before .before .if1 .left in (
-      (head-within (now (a .text)) (a .c) (a .at) (s .pre), got-is _ (x .got-rows)),
-      room-counted (now (a .text)) (a .c) (a .at) (x .tables) (x .right)
-          (room-there (x .tables) (now (a .nodes)) (now (a .edges)) (now (a .refs)) w),
-    )
+    let i = room c in
+    let j = judged (i .before) in
+    room-announced (right (j .before)) (j .judge-room .ensures) (sym (i .before .refuses .ensures) ∙ i .if1 .left)
 
 returns-2 : tie.Need-returns-2
-returns-2 c = let s = c .before .before .before .before .before .before .before .before .before in
-    let a = s .args in
-    let w = text-wrong (now (a .text)) (a .c) (a .at) (s .pre) _
-    (sym (c .before .before .before .before .scan-rows .ensures) ∙ c .before .before .x .given .1) in
-    read-wrong (now (a .text)) (now (a .nodes)) (now (a .edges)) (now (a .refs)) _ w (c .refusal .ensures)
+returns-2 c =
+    let x = c .before .before in
+    let r = wrong x in
+    read-wrong (text-wrong _ _ _ (entry r .pre) _ (sym (r .scan-rows .ensures) ∙ x .x .given .1))
+    (c .refusal .ensures)
 
 same-length : tie.Need-same-length
 same-length c = search needs
@@ -91,22 +103,10 @@ same-length-3 c = search needs
 
 returns-3 : tie.Need-returns-3
 returns-3 c =
-    let s =
-    c .before .before .before .before .before .before .before .before .before .before .before .before .before .before
-    .before .before .before .before .before .before in
-    let a = s .args in
-    let x = right
-    (c .before .before .before .before .before .before .before .before .before .before .before .before .before) in
-    let says =
-    c .before .before .before .before .before .before .before .before .before .before .before
-    .before .judge-room .ensures ∙ room-asked (now (a .text)) (a .c) (a .at) (x .tables) (x .right) _ _ _ in
-    let w = sym
-    (c .before .before .before .before .before .before .before .before .before .before .before .refuses .ensures)
-    ∙ c .before .before .before .before .before .before .before .before .before .before .if1 .left in
-    let held = rw (got-of nothing _ (x .got-rows)) at
-    (c .before .before .before .before .before .before .fill-rows .ensures) in
-    read-all (now (a .text)) (now (a .nodes)) (now (a .edges)) (now (a .refs)) (write-of-read _ _ _ (x .read)) says w
-    (counts-told (now (a .text)) (a .c) (a .at) (x .tables) (x .right) _) held
+    let i = room (filled c .before) in
+    let j = judged (i .before) in
+    room-taken (right (j .before)) (j .judge-room .ensures) (sym (i .before .refuses .ensures) ∙ i .if1 .left)
+    (filled c .fill-rows .ensures)
 
 pub read-rows-spec : {M : Type 1} → statement M
 read-rows-spec =
@@ -114,7 +114,7 @@ read-rows-spec =
     (tie.spec
     scan-rows-requires
     enum-known-x
-    cast-t11
+    cast-place
     refusal-requires
     enum-told
     judge-room-requires
