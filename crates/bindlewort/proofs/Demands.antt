@@ -2,7 +2,7 @@
 -- cases. Each theorem cites the crates below. `r` is what a call returned, `given` its promise. Assumes nothing.
 use mathlib.Core.Path.{_≡_, refl, sym, ap, _∙_, subst}
 use mathlib.Core.Logic.{_≢_, _↔_}
-use mathlib.Core.List.{List}
+use mathlib.Core.List.{List, []}
 use Prim.Native.Nat.{ℕ, _+_, _*_, _≤_, _<_}
 use lib.ListN.{length, take}
 use Rattle.ground.specs.Sums.{count}
@@ -14,7 +14,8 @@ use Rattle.answers.specs.Numbers.{Numbers, numbers}
 use Rattle.answers.specs.Refusals.{passed}
 use Rattle.answers.proofs.AnswerLaws.{answer-unique}
 use Rattle.tables.specs.Instants.{Now}
-use Rattle.tables.specs.Rows.{nodeWidth, edgeWidth, refWidth, edgeAt, nodeCount, edgeCount}
+use Rattle.tables.specs.Rows.{nodeWidth, edgeWidth, refWidth, edgeAt}
+use Rattle.tables.specs.Tables.{Tables, edgeIn}
 use Rattle.tables.specs.Says.{Obeys}
 use Rattle.history.specs.History.{History, Ruled, held}
 use Rattle.history.specs.Faults.{Holds}
@@ -30,8 +31,8 @@ use Rattle.snapshot.proofs.Contained.{contained, refused-frame, answers-unique,
 use Rattle.repair.specs.Stays.{Stay, OneLatest}
 use Rattle.repair.specs.Answers.{Answers as RepairAnswers, Repaired}
 use Rattle.repair.proofs.Repaired.{answers-unique as repair-answers-unique, repaired-unique, done-one}
-use Rattle.text.specs.Text.{Tables, Small, lent, textOf}
-use Rattle.text.specs.Answers.{Written, readingOf as tells, Fits, Read}
+use Rattle.text.specs.Text.{Small, textOf}
+use Rattle.text.specs.Answers.{Written, readingOf as tells, Fits, Read, fronts}
 use Rattle.text.proofs.PromiseLaws.{
   write-unique as written-unique,
   write-frame as written-frame,
@@ -39,11 +40,12 @@ use Rattle.text.proofs.PromiseLaws.{
   read-unique as taken-unique,
   read-frame as taken-frame,
   read-written,
+  read-fronts,
   write-read,
 }
 use Rattle.bindlewort.specs.declared.Answered.{Answered}
 use Rattle.bindlewort.specs.declared.Reading.{Reading}
-use Rattle.bindlewort.specs.Given.{told, Given, Retold, GivenReading}
+use Rattle.bindlewort.specs.Given.{slices, told, Told, Retold, Given}
 use Rattle.bindlewort.specs.Codes.{
   checkCodes,
   snapshotCodes,
@@ -61,6 +63,8 @@ use Rattle.bindlewort.proofs.GivenLaws.{
   retold-nothing,
   told-refuses,
   told-done,
+  told-same,
+  slices-whole,
   given-unique,
   given-exactly,
   given-outcome,
@@ -82,68 +86,67 @@ use Rattle.bindlewort.proofs.CodeLaws.{
 -- given exactly under its condition". `-frame`: "A refused call leaves each table and buffer lent to it as it was."
 -- [01:Strength of the promises] `-unique`: "two outcomes allowed by a contract coincide"
 
-module _ (start : ℕ) (ns es rs : List ℕ) (r : Answered) (given : Given (Checked start ns es rs) r) where
-  pub check-exactly : Exactly checkCodes (Checked start ns es rs) r
-  check-exactly = given-exactly _ (λ a b. checked-unique start ns es rs) checkCodes (λ a. check-among) r given
+module _ (L : Tables) (r : Answered) (given : Given Told (Checked L) r) where
+  pub check-exactly : Exactly checkCodes (Checked L) r
+  check-exactly = given-exactly _ (λ a b. checked-unique L) checkCodes (λ a. check-among) r given
 
-  pub check-unique : (q : Answered) → Given (Checked start ns es rs) q → r ≡ q
-  check-unique q = given-unique _ (λ a b. checked-unique start ns es rs) r q given
+  pub check-unique : (q : Answered) → Given Told (Checked L) q → r ≡ q
+  check-unique q = given-unique Told told-same _ (λ a b. checked-unique L) r q given
 
-module _ (start : ℕ) (ns es rs : List ℕ) (t : ℕ) (before : List ℕ) where
+module _ (L : Tables) (t : ℕ) (before : List ℕ) where
   abbrev Shows : Answered → List ℕ → Type 0
-  Shows r after = Given (λ a. Snapshot start ns es rs t before a after) r
+  Shows r after = Given Told (λ a. Snapshot L t before a after) r
 
   module _ (r : Answered) (after : List ℕ) (given : Shows r after) where
-    pub snapshot-exactly : Exactly snapshotCodes (Answers start ns es rs t (length before)) r
+    pub snapshot-exactly : Exactly snapshotCodes (Answers L t (length before)) r
     snapshot-exactly =
         let (a, s, e) = given in
-        given-exactly _ (λ a b. answers-unique start ns es rs t) snapshotCodes (λ a. snapshot-among) r (a, s .answer, e)
+        given-exactly _ (λ a b. answers-unique L t) snapshotCodes (λ a. snapshot-among) r (a, s .answer, e)
 
     -- ROOM names as many rows as the root and the other nodes that are present
-    pub snapshot-needs : (k : ℕ) → told r ≡ numbers (Room t k)
-        → k ≡ 1 + count (isOther (held start ns es rs) t) (nodeCount ns)
+    pub snapshot-needs : (k : ℕ) → Told (Room t k) r → k ≡ 1 + count (isOther (held L) t) (L .nodes .count)
     snapshot-needs k e = room-needs (snapshot-exactly .exact (Room t k) .0 e)
 
     pub snapshot-frame : r .code ≢ 0 → after ≡ before
-    snapshot-frame h =
-        let (a, s, e) = given in
-        refused-frame start ns es rs t before a after s (told-refuses r a e h)
+    snapshot-frame h = let (a, s, e) = given in refused-frame L t before a after s (told-refuses r a e h)
 
     pub snapshot-unique : (q : Answered) (last : List ℕ) → Shows q last → (r ≡ q) × (after ≡ last)
     snapshot-unique q last =
-        given-outcome (Snapshot start ns es rs t before)
-        (λ a b u v. shown-unique start ns es rs t before a u) r q after last given
+        given-outcome Told told-same (Snapshot L t before) (λ a b u v. shown-unique L t before a u) r q after last given
 
     -- [demand 2] "a snapshot shows exactly what was contained"
-    pub snapshot-contained : r .code ≡ 0 → Given (λ a. Contained (held start ns es rs) t before a after) r
+    pub snapshot-contained : r .code ≡ 0 → Given Told (λ a. Contained (held L) t before a after) r
     snapshot-contained z =
         let (a, s, e) = given in
-        (a, contained start ns es rs t before a after s (told-done r a e z), e)
+        (a, contained L t before a after s (told-done r a e z), e)
 
-module _ (start : ℕ) (ns es : List ℕ) where
+module _ (L : Tables) where
   abbrev Mends : Answered → List ℕ → Type 0
-  Mends r left = Given (λ a. Repaired start ns es a left) r
+  Mends r left = Given Told (λ a. Repaired L a left) r
 
   module _ (r : Answered) (left : List ℕ) (given : Mends r left) where
-    pub repair-exactly : Exactly repairCodes (RepairAnswers start ns es) r
-    repair-exactly =
-        let (a, x, e) = given in
-        given-exactly _ (λ a b. repair-answers-unique) repairCodes (λ a. repair-among) r (a, x .answer, e)
-
-    pub repair-frame : r .code ≢ 0 → left ≡ es
+    pub repair-frame : r .code ≢ 0 → left ≡ L .edges .numbers
     repair-frame h = let (a, x, e) = given in x .kept (told-refuses r a e h)
 
     pub repair-unique : (q : Answered) (last : List ℕ) → Mends q last → (r ≡ q) × (left ≡ last)
-    repair-unique q last = given-outcome (Repaired start ns es) (λ a b u v. repaired-unique) r q left last given
+    repair-unique q last =
+        given-outcome Told told-same (Repaired L) (λ a b u v. repaired-unique) r q left last given
 
     -- [demand 2] "repair gives each child, from first start to last end, the parent of the row that started last"
-    pub repair-latest : r .code ≡ 0 → (c t : ℕ) → Stay (edgeAt es) (edgeCount es) c t
-        → OneLatest (edgeAt es) (edgeAt left) (edgeCount es) c t
+    pub repair-latest : r .code ≡ 0 → (c t : ℕ) → Stay (edgeIn L) (L .edges .count) c t
+        → OneLatest (edgeIn L) (edgeAt left) (L .edges .count) c t
     repair-latest z = let (a, x, e) = given in done-one x (told-done r a e z)
+
+-- repair is lent no references
+module _ (start : ℕ) (ns es : List ℕ) where
+  pub repair-exactly : (r : Answered) (left : List ℕ) → Mends (slices start ns es []) r left
+      → Exactly repairCodes (RepairAnswers (slices start ns es [])) r
+  repair-exactly r left (a, x, e) =
+      given-exactly _ (λ a b. repair-answers-unique) repairCodes (λ a. repair-among refl) r (a, x .answer, e)
 
 module _ (t : Tables) (before : List ℕ) where
   abbrev Writes : Answered → List ℕ → Type 0
-  Writes r after = Given (λ a. Written t before a after) r
+  Writes r after = Given Told (λ a. Written t before a after) r
 
   module _ (r : Answered) (after : List ℕ) (given : Writes r after) where
     pub write-exactly : Exactly writeCodes (WriteAnswers t before) r
@@ -155,12 +158,13 @@ module _ (t : Tables) (before : List ℕ) where
     write-frame h = let (a, w, e) = given in written-frame w (told-refuses r a e h)
 
     pub write-unique : (q : Answered) (last : List ℕ) → Writes q last → (r ≡ q) × (after ≡ last)
-    write-unique q last = given-outcome (Written t before) (λ a b u v. written-unique) r q after last given
+    write-unique q last =
+        given-outcome Told told-same (Written t before) (λ a b u v. written-unique) r q after last given
 
 -- what read text returned, and the three tables that it left
 module _ (s n e f : List ℕ) where
   abbrev Reads : Reading → List ℕ → List ℕ → List ℕ → Type 0
-  Reads r n′ e′ f′ = GivenReading (λ x. Read s n e f x n′ e′ f′) r
+  Reads r n′ e′ f′ = Given Retold (λ x. Read s n e f x n′ e′ f′) r
 
   module _ (r : Reading) (n′ e′ f′ : List ℕ) (given : Reads r n′ e′ f′) where
     pub read-exactly : Exactly readCodes (ReadAnswers s n e f) (r .answer)
@@ -185,10 +189,14 @@ module _ (s n e f : List ℕ) where
 
 -- [demand 2] "tables written as text read back the same": tables of 32-bit numbers, and the bytes that were counted
 module _ (t : Tables) (out : List ℕ) (r : Answered) (out′ : List ℕ) (given : Writes t out r out′) (done : r .code ≡ 0)
-    (start : t .start ≤ Now) (nodes : Small (t .nodes)) (edges : Small (t .edges)) (refs : Small (t .refs)) where
+    (start : t .start ≤ Now) (nodes : Small (t .nodes .numbers)) (edges : Small (t .edges .numbers))
+    (refs : Small (t .refs .numbers)) where
   pub written-reads-back : (n e f : List ℕ) (q : Reading) (n′ e′ f′ : List ℕ) → Fits t n e f
       → Reads (take (r .place) out′) n e f q n′ e′ f′
-      → Retold (tells passed t) q × (n′ ≡ front (t .nodes) n) × (e′ ≡ front (t .edges) e) × (f′ ≡ front (t .refs) f)
+      → Retold (tells passed t) q
+      × (n′ ≡ front (t .nodes .numbers) n)
+      × (e′ ≡ front (t .edges .numbers) e)
+      × (f′ ≡ front (t .refs .numbers) f)
   written-reads-back n e f q n′ e′ f′ fits (x, p, g) =
       let (a, w, k) = given in
       let ok = told-done r a k done in
@@ -200,10 +208,10 @@ module _ (t : Tables) (out : List ℕ) (r : Answered) (out′ : List ℕ) (given
 -- [demand 2] "accepted text written again is the same text"
 module _ (s n e f : List ℕ) (r : Reading) (n′ e′ f′ : List ℕ) (given : Reads s n e f r n′ e′ f′)
     (done : r .answer .code ≡ 0) where
-  -- the tables that a caller finds at the fronts of what was lent, by the start and the counts that were answered
+  -- the slices that a caller finds at the fronts of what was lent, by the start and the counts that were answered
   abbrev found : Tables
   found =
-      lent (r .start) (take (r .nodes * nodeWidth) n′) (take (r .edges * edgeWidth) e′) (take (r .refs * refWidth) f′)
+      slices (r .start) (take (r .nodes * nodeWidth) n′) (take (r .edges * edgeWidth) e′) (take (r .refs * refWidth) f′)
 
   pub read-writes-again : (out : List ℕ) (q : Answered) (out′ : List ℕ) → length s ≤ length out
       → Writes found out q out′
@@ -211,7 +219,10 @@ module _ (s n e f : List ℕ) (r : Reading) (n′ e′ f′ : List ℕ) (given :
   read-writes-again out q out′ room (b, w, k) =
       let (x, p, g) = given in
       let ok = told-done (r .answer) (x .answer) (g .answer) done in
-      let (is, text) = write-read p ok (rw (g .start, g .nodes, g .edges, g .refs) at w) room in
+      let t = read-fronts p ok .lendable in
+      let (is, text) =
+      write-read p ok (rw (slices-whole (fronts x n′ e′ f′) (t .nodes .whole) (t .edges .whole) (t .refs .whole)) at
+      (rw (g .start, g .nodes, g .edges, g .refs) at w)) room in
       (k ∙ ap numbers is, text)
 
 -- ---- demand 3
@@ -219,9 +230,9 @@ module _ (s n e f : List ℕ) (r : Reading) (n′ e′ f′ : List ℕ) (given :
 -- the root by one chain and no other, no node is missing between two stays, and each reference in force joins two
 -- present ends; otherwise the verdict is the earliest such instant with the kind and place that the rules fix."
 
-module _ (start : ℕ) (ns es rs : List ℕ) (o : Obeys start ns es rs) where
+module _ (L : Tables) (o : Obeys L) where
   abbrev H : History
-  H = held start ns es rs
+  H = held L
 
   abbrev AllSound : Type 0
   AllSound = (t : ℕ) → t ≤ Now → Sound H t
@@ -231,26 +242,25 @@ module _ (start : ℕ) (ns es rs : List ℕ) (o : Obeys start ns es rs) where
   FirstUnsound t f = (Sound H t → ⊥) × ((s : ℕ) → s < t → Sound H s) × First (Holds H t) f
 
   ruled : Ruled H
-  ruled = obeys-ruled start ns es rs o
+  ruled = obeys-ruled L o
 
-  verdict : {a : Answer} → Checked start ns es rs a → Verdict H a
-  verdict = checked-verdict start ns es rs o
+  verdict : {a : Answer} → Checked L a → Verdict H a
+  verdict = checked-verdict L o
 
   fault : {a : Answer} → Verdict H a → (AllSound → ⊥) → (t : ℕ) × (f : Fault) × (a ≡ Faulty t f) × FirstUnsound t f
   fault (accepted n) unsound = absurd (unsound (accepted-sound H ruled .0 (accepted n)))
   fault (refused {t} {f} x) unsound = (t, f, refl, refused-unsound H ruled (refused x))
 
-  module _ (r : Answered) (given : Given (Checked start ns es rs) r) where
-    pub check-accepted : (told r ≡ numbers passed) ↔ AllSound
+  module _ (r : Answered) (given : Given Told (Checked L) r) where
+    pub check-accepted : Told passed r ↔ AllSound
     check-accepted =
         let (a, c, e) = given in
-        let is : told r ≡ numbers passed → a ≡ passed = λ q. answer-unique a passed (sym e ∙ q) in (
-          λ q. accepted-sound H ruled .0 (verdict (subst (Checked start ns es rs) (is q) c)),
+        let is : Told passed r → a ≡ passed = λ q. answer-unique a passed (sym e ∙ q) in (
+          λ q. accepted-sound H ruled .0 (verdict (subst (Checked L) (is q) c)),
           λ s. e ∙ ap numbers (verdict-unique H (verdict c) (accepted-sound H ruled .1 s)),
         )
 
-    pub check-earliest : (AllSound → ⊥)
-        → (t : ℕ) × (f : Fault) × (told r ≡ numbers (Faulty t f)) × FirstUnsound t f
+    pub check-earliest : (AllSound → ⊥) → (t : ℕ) × (f : Fault) × Told (Faulty t f) r × FirstUnsound t f
     check-earliest unsound =
         let (a, c, e) = given in
         let (t, f, is, first) = fault (verdict c) unsound in

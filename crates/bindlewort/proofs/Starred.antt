@@ -9,21 +9,35 @@ use Rattle.ground.specs.Sums.{sum}
 use Rattle.ground.specs.Lists.{All}
 use Rattle.answers.specs.declared.Answer.{Answer}
 use Rattle.tables.specs.Rows.{nodeAt, edgeAt, refAt, setEnd}
-use Rattle.tables.specs.Rules.{sizeRule, badNode, badEdge, badRef}
-use Rattle.tables.specs.Says.{sizesSay, allSizesSay, rowsSay, refsSay, containmentSays, historySays}
+use Rattle.tables.specs.Sizes.{sizeRule}
+use Rattle.tables.specs.Rules.{badNode, badRow}
+use Rattle.tables.specs.Says.{sizesSay, rowsSay, historySays}
 use Rattle.history.specs.History.{held}
-use Rattle.history.specs.Computed.{afterGap, faultsSay, shownSay, verdict}
+use Rattle.history.specs.Computed.{say, verdict}
 use Rattle.verdict.specs.Checked.{Checked, checkSays}
 use Rattle.verdict.proofs.CheckedLaws.{checked-exists}
 use Rattle.snapshot.specs.Walk.{each, subtree, flat}
 use Rattle.snapshot.specs.Depth.{climbs, tooDeep}
-use Rattle.snapshot.specs.Snapshot.{below, isChild, valueAt, rowsOf, roomSays, ruledSays, snapshotSays, written}
+use Rattle.snapshot.specs.Ready.{instantSays, readySays}
+use Rattle.snapshot.specs.Snapshot.{below, isChild, valueAt, rowsOf, roomSays, snapshotSays, written}
 use Rattle.snapshot.specs.Answers.{Answers}
 use Rattle.snapshot.proofs.AnswersLaws.{answers-says}
 use Rattle.repair.specs.Ends.{tied, nextStart, lastEnd, newEnd, withEnds, repaired}
 use Rattle.repair.specs.Says.{settleSays, repairSays, repairLeaves}
 use Rattle.repair.proofs.AnswersLaws.{repaired-of}
-use Rattle.bindlewort.specs.Cases.{Call, check, snapshot, repair, Case, output, Promised, said, left, cases}
+use Rattle.bindlewort.specs.Cases.{
+  Call,
+  check,
+  snapshot,
+  repair,
+  Case,
+  tables,
+  output,
+  Promised,
+  said,
+  left,
+  cases,
+}
 
 -- what the definitions compute for a case, and what the document says of it
 abbrev computed : Case → Answer × List ℕ
@@ -34,13 +48,12 @@ stated c = (c .answer, c .left)
 
 allowed : (k : Call) (c : Case) → said k c ≡ c .answer → left k c ≡ c .left → Promised k c
 allowed check c e l =
-    subst (Checked 0 (c .nodes) (c .edges) (c .refs)) e (checked-exists 0 (c .nodes) (c .edges) (c .refs))
+    subst (Checked (tables c)) e (checked-exists (tables c))
 allowed (snapshot t) c e l =
     record {
       answer =
-          subst (Answers 0 (c .nodes) (c .edges) (c .refs) t (length output)) e
-          (answers-says 0 (c .nodes) (c .edges) (c .refs) t (length output));
-      out = sym l ∙ ap (λ (a : Answer). written a (rowsOf (held 0 (c .nodes) (c .edges) (c .refs)) t) output) e;
+          subst (Answers (tables c) t (length output)) e (answers-says (tables c) t (length output));
+      out = sym l ∙ ap (λ (a : Answer). written a (rowsOf (held (tables c)) t) output) e;
     }
 allowed repair c e l = repaired-of (record { answer = sym e; table = sym l })
 
@@ -54,8 +67,8 @@ every (c ∷ cs) e =
 -- [01:Strength of the promises] "The starred cases are proved together as one table under a single theorem about the
 -- definitions"
 pub starred : All (λ c. Promised (c .call) c) cases
-unfolding any least sum nodeAt edgeAt refAt setEnd sizeRule badNode badEdge badRef
-    sizesSay allSizesSay rowsSay refsSay containmentSays historySays afterGap faultsSay shownSay verdict checkSays
-    each subtree flat climbs tooDeep below isChild valueAt roomSays ruledSays snapshotSays written
+unfolding any least sum nodeAt edgeAt refAt setEnd sizeRule badNode badRow
+    sizesSay rowsSay historySays say verdict checkSays
+    each subtree flat climbs tooDeep below isChild valueAt instantSays readySays roomSays snapshotSays written
     tied nextStart lastEnd newEnd withEnds repaired settleSays repairSays repairLeaves
 starred = every cases refl

@@ -1,5 +1,6 @@
 -- The starred cases of document 01, 'Both sides of the line', as one table.
 --   Call, Case   a call on tables of start 0, its answer, and what it leaves: an output of 20 numbers 7, or the table
+--   tables       what is lent
 --   Promised     the promise of the call allows that answer and that rest
 --   output       what a snapshot is given to write to
 --   said, left   what the definitions compute
@@ -9,17 +10,20 @@ use mathlib.Core.List.{List, [], _∷_}
 use Prim.Native.Nat.{ℕ}
 use lib.ListN.{length, replicate}
 use Rattle.ground.specs.Lists.{front}
-use Rattle.answers.specs.declared.Fault.the-variants.{Overlap, Gap, Outside, Cycle, Dangling}
+use Rattle.answers.specs.declared.Kind.the-variants.{Overlap, Gap, Outside, Cycle, Dangling}
 use Rattle.answers.specs.declared.Answer.{Answer}
 use Rattle.answers.specs.declared.Answer.the-variants.{Done, Faulty, Tie}
+use Rattle.answers.specs.Numbers.{fault}
 use Rattle.answers.specs.Refusals.{passed}
 use Rattle.tables.specs.Instants.{Now}
+use Rattle.tables.specs.Tables.{Tables}
 use Rattle.history.specs.History.{held}
 use Rattle.verdict.specs.Checked.{Checked, checkSays}
 use Rattle.snapshot.specs.Snapshot.{rowsOf, snapshotSays, written}
 use Rattle.snapshot.specs.Answers.{Snapshot}
 use Rattle.repair.specs.Says.{repairSays, repairLeaves}
 use Rattle.repair.specs.Answers.{Repaired}
+use Rattle.bindlewort.specs.Given.{slices}
 
 pub data Call : Type 0 where
   check : Call
@@ -34,23 +38,26 @@ pub record Case : Type 0 where
   pub answer : Answer
   pub left : List ℕ
 
+abbrev pub tables : Case → Tables
+tables c = slices 0 (c .nodes) (c .edges) (c .refs)
+
 abbrev pub output : List ℕ
 output = replicate 20 7
 
 abbrev pub Promised : Call → Case → Type 0
-Promised check c = Checked 0 (c .nodes) (c .edges) (c .refs) (c .answer)
-Promised (snapshot t) c = Snapshot 0 (c .nodes) (c .edges) (c .refs) t output (c .answer) (c .left)
-Promised repair c = Repaired 0 (c .nodes) (c .edges) (c .answer) (c .left)
+Promised check c = Checked (tables c) (c .answer)
+Promised (snapshot t) c = Snapshot (tables c) t output (c .answer) (c .left)
+Promised repair c = Repaired (tables c) (c .answer) (c .left)
 
 abbrev pub said : Call → Case → Answer
-said check c = checkSays 0 (c .nodes) (c .edges) (c .refs)
-said (snapshot t) c = snapshotSays 0 (c .nodes) (c .edges) (c .refs) t (length output)
-said repair c = repairSays 0 (c .nodes) (c .edges)
+said check c = checkSays (tables c)
+said (snapshot t) c = snapshotSays (tables c) t (length output)
+said repair c = repairSays (tables c)
 
 abbrev pub left : Call → Case → List ℕ
 left check c = []
-left (snapshot t) c = written (said (snapshot t) c) (rowsOf (held 0 (c .nodes) (c .edges) (c .refs)) t) output
-left repair c = repairLeaves 0 (c .nodes) (c .edges)
+left (snapshot t) c = written (said (snapshot t) c) (rowsOf (held (tables c)) t) output
+left repair c = repairLeaves (tables c)
 
 -- nodes: the root and five of H; the root and one or two elements; the root alone
 abbrev h : List ℕ
@@ -94,25 +101,25 @@ beds = 0 ∷ Now ∷ Now ∷ 1 ∷ 0 ∷ Now ∷ 2 ∷ 0 ∷ Now ∷ []
 abbrev pub cases : List Case
 cases =
     -- "Check of H: 16, 100, 0. * H with the reference ending at 99: 0, 0, 0."
-    checked h (rows 49 50) (refers 120) (Faulty 100 (Dangling 0))
+    checked h (rows 49 50) (refers 120) (Faulty 100 (fault Dangling 0))
     ∷ checked h (rows 49 50) (refers 99) passed
     -- "H, containment row 3 from 45: check 11, 45, 3; repair makes row 2 end at 44, place 1."
-    ∷ checked h (rows 49 45) (refers 120) (Faulty 45 (Overlap 3))
+    ∷ checked h (rows 49 45) (refers 120) (Faulty 45 (fault Overlap 3))
     ∷ mended h (rows 49 45) (Done 0 1) (rows 44 45)
     -- "H, row 3 from 52: check 12, 50, 3, though 16 holds at 50 too. * Snapshot of it at 50: 16, place 0."
-    ∷ checked h (rows 49 52) (refers 120) (Faulty 50 (Gap 3))
-    ∷ shown h (rows 49 52) (refers 120) 50 (Faulty 50 (Dangling 0)) []
+    ∷ checked h (rows 49 52) (refers 120) (Faulty 50 (fault Gap 3))
+    ∷ shown h (rows 49 52) (refers 120) 50 (Faulty 50 (fault Dangling 0)) []
     -- "Snapshot of H at 50, six rows: (0,N,N) (1,0,N) (4,1,N) (5,4,3) (2,0,N) (3,2,N)."
     ∷ shown h (rows 49 50) (refers 120) 50 (Done 50 6)
     (0 ∷ Now ∷ Now ∷ 1 ∷ 0 ∷ Now ∷ 4 ∷ 1 ∷ Now ∷ 5 ∷ 4 ∷ 3 ∷ 2 ∷ 0 ∷ Now ∷ 3 ∷ 2 ∷ Now ∷ [])
     -- "Snapshot of H at 9, three rows: (0,N,N) (1,0,N) (2,0,N). At 100: 16. At 121: the same three."
     ∷ shown h (rows 49 50) (refers 120) 9 (Done 9 3) beds
-    ∷ shown h (rows 49 50) (refers 120) 100 (Faulty 100 (Dangling 0)) []
+    ∷ shown h (rows 49 50) (refers 120) 100 (Faulty 100 (fault Dangling 0)) []
     ∷ shown h (rows 49 50) (refers 120) 121 (Done 121 3) beds
     -- "Elements 1 and 2, rows 0→1 [0,14], 1→2 [10,20], 2→1 [15,30]: check 14, 15, 1."
-    ∷ checked two (0 ∷ 1 ∷ 0 ∷ 14 ∷ 1 ∷ 2 ∷ 10 ∷ 20 ∷ 2 ∷ 1 ∷ 15 ∷ 30 ∷ []) [] (Faulty 15 (Cycle 1))
+    ∷ checked two (0 ∷ 1 ∷ 0 ∷ 14 ∷ 1 ∷ 2 ∷ 10 ∷ 20 ∷ 2 ∷ 1 ∷ 15 ∷ 30 ∷ []) [] (Faulty 15 (fault Cycle 1))
     -- "Rows 0→1 [0,10], 1→2 [5,12]: check 13, 11, 1."
-    ∷ checked two (0 ∷ 1 ∷ 0 ∷ 10 ∷ 1 ∷ 2 ∷ 5 ∷ 12 ∷ []) [] (Faulty 11 (Outside 1))
+    ∷ checked two (0 ∷ 1 ∷ 0 ∷ 10 ∷ 1 ∷ 2 ∷ 5 ∷ 12 ∷ []) [] (Faulty 11 (fault Outside 1))
     -- "Rows into one child [0,Now] and [5,9]: repair gives [0,4] and [5,Now], place 2."
     ∷ mended one (stays 0 Now 5 9) (Done 0 2) (stays 0 4 5 Now)
     -- "Rows into one child [5,9] and [5,7], in that order, as rows 0 and 1: repair 22, instant 5, place 1."

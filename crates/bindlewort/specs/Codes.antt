@@ -1,5 +1,4 @@
 -- Which codes each public call can give, and what it is to give each exactly under its condition.
---   isAmong            a number is one of a list
 --   containmentCodes   0, and the codes of a start, nodes and a containment table that break a rule; ruleCodes: those
 --                      of references too
 --   faultCodes         the codes of faults
@@ -11,11 +10,10 @@
 -- DEEP is in no list: proofs/CodeLaws.antt has that no input gets it. Assumes nothing.
 use mathlib.Core.Path.{_≡_}
 use mathlib.Core.Logic.{_↔_}
-use mathlib.Core.Bool.{Bool, true, false, cond}
+use mathlib.Core.Bool.{true}
 use mathlib.Core.List.{List, [], _∷_, _++_, map}
 use Prim.Native.Nat.{ℕ}
-use lib.Dec.{eqb}
-use Rattle.answers.specs.declared.Fault.the-variants.{Overlap, Gap, Outside, Cycle, Late, Dangling}
+use Rattle.ground.specs.Lists.{isAmong}
 use Rattle.answers.specs.declared.Answer.{Answer}
 use Rattle.answers.specs.declared.Answer.the-variants.{
   Size,
@@ -29,17 +27,13 @@ use Rattle.answers.specs.declared.Answer.the-variants.{
   Text,
   TextRoom,
 }
-use Rattle.answers.specs.Numbers.{codeOf, numbers}
+use Rattle.answers.specs.Numbers.{codeOf, kinds, shownKinds, numbers}
 use Rattle.answers.specs.Refusals.{passed}
 use Rattle.text.specs.declared.read.Reading.{Reading as TextReading}
-use Rattle.text.specs.Text.{Tables}
+use Rattle.tables.specs.Tables.{Tables}
 use Rattle.text.specs.Answers.{Written, Read}
 use Rattle.bindlewort.specs.declared.Answered.{Answered}
 use Rattle.bindlewort.specs.Given.{told}
-
-abbrev pub isAmong : List ℕ → ℕ → Bool
-isAmong [] c = false
-isAmong (x ∷ xs) c = cond (eqb x c) true (isAmong xs c)
 
 -- the codes of answers, whatever their instants and places
 abbrev codesOf : List Answer → List ℕ
@@ -52,7 +46,7 @@ abbrev pub ruleCodes : List ℕ
 ruleCodes = containmentCodes ++ codesOf (Reference 0 ∷ [])
 
 abbrev pub faultCodes : List ℕ
-faultCodes = map codeOf (Overlap 0 ∷ Gap 0 ∷ Outside 0 ∷ Cycle 0 ∷ Late 0 ∷ Dangling 0 ∷ [])
+faultCodes = map codeOf kinds
 
 -- [01:What the calls answer] "Check: 1, 2, 3, 4, 5, then faults."
 abbrev pub checkCodes : List ℕ
@@ -60,8 +54,7 @@ checkCodes = ruleCodes ++ faultCodes
 
 -- "Snapshot at t: 1 to 5 in order, 23, then the fault at t .. with GAP set aside, 24, 21"
 abbrev pub snapshotOnly : List ℕ
-snapshotOnly =
-    codesOf (Early 0 ∷ Room 0 0 ∷ []) ++ map codeOf (Overlap 0 ∷ Outside 0 ∷ Cycle 0 ∷ Late 0 ∷ Dangling 0 ∷ [])
+snapshotOnly = codesOf (Early 0 ∷ Room 0 0 ∷ []) ++ map codeOf shownKinds
 
 abbrev pub snapshotCodes : List ℕ
 snapshotCodes = ruleCodes ++ snapshotOnly

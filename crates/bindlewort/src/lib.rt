@@ -2,14 +2,17 @@
 // ends with one answer of the list. Each promise determines the answer and every number and byte then held by what was
 // lent, on refusals too.
 ghost use mathlib.Core.Path.{_≡_};
+ghost use mathlib.Core.List.{[]};
 ghost use Rattle.answers.specs.Numbers.{numbers};
 ghost use Rattle.verdict.specs.Checked.{Checked};
 ghost use Rattle.snapshot.specs.Answers.{Snapshot};
 ghost use Rattle.repair.specs.Answers.{Repaired};
-ghost use Rattle.text.specs.Text.{lent};
 ghost use Rattle.text.specs.Answers.{Written, Read};
-ghost use Rattle.bindlewort.specs.Given.{told, Given, GivenReading};
+ghost use Rattle.bindlewort.specs.Given.{slices, told, Told, Retold, Given};
 use answers::Answer;
+use tables::rows::EDGE_WIDTH;
+use tables::rows::NODE_WIDTH;
+use tables::rows::REF_WIDTH;
 
 // An answer in document 01's numbers.
 #[repr(C)]
@@ -42,9 +45,13 @@ fn tell(a: Answer) -> Answered
 // Check: the earliest instant with a fault, there the smallest code, and there the smallest place.
 #[no_mangle]
 pub extern "C" fn bw_check(start: u32, nodes: &[u32], edges: &[u32], refs: &[u32]) -> Answered
-    ensures { λ r. ⌜ Given (Checked start (now (nodes .entry)) (now (edges .entry)) (now (refs .entry))) r ⌝ }
+    ensures { λ r. ⌜ Given Told
+        (Checked (slices start (now (nodes .entry)) (now (edges .entry)) (now (refs .entry)))) r ⌝ }
 {
-    tell(verdict::check(start, nodes, edges, refs))
+    let n = nodes.len() / NODE_WIDTH;
+    let m = edges.len() / EDGE_WIDTH;
+    let k = refs.len() / REF_WIDTH;
+    tell(verdict::check(start, nodes, n, edges, m, refs, k))
 }
 
 // Snapshot: the root and what it contains at t, a row for each node.
@@ -57,18 +64,25 @@ pub extern "C" fn bw_snapshot(
     t: u32,
     out: &mut [u32],
 ) -> Answered
-    ensures { λ r. ⌜ Given (λ a. Snapshot start (now (nodes .entry)) (now (edges .entry)) (now (refs .entry)) t
+    ensures { λ r. ⌜ Given Told (λ a. Snapshot
+        (slices start (now (nodes .entry)) (now (edges .entry)) (now (refs .entry))) t
         (now (out .entry)) a (now (out .exit))) r ⌝ }
 {
-    tell(snapshot::snapshot(start, nodes, edges, refs, t, out))
+    let n = nodes.len() / NODE_WIDTH;
+    let m = edges.len() / EDGE_WIDTH;
+    let k = refs.len() / REF_WIDTH;
+    tell(snapshot::snapshot(start, nodes, n, edges, m, refs, k, t, out))
 }
 
 // Repair: each child gets, from its first start to its last end, the parent of the row that started last.
 #[no_mangle]
 pub extern "C" fn bw_repair(start: u32, nodes: &[u32], edges: &mut [u32]) -> Answered
-    ensures { λ r. ⌜ Given (λ a. Repaired start (now (nodes .entry)) (now (edges .entry)) a (now (edges .exit))) r ⌝ }
+    ensures { λ r. ⌜ Given Told (λ a. Repaired (slices start (now (nodes .entry)) (now (edges .entry)) []) a
+        (now (edges .exit))) r ⌝ }
 {
-    tell(repair::repair(start, nodes, edges))
+    let n = nodes.len() / NODE_WIDTH;
+    let m = edges.len() / EDGE_WIDTH;
+    tell(repair::repair(start, nodes, n, edges, m))
 }
 
 // Write text: the text of the tables, whatever their numbers.
@@ -80,10 +94,14 @@ pub extern "C" fn bw_write_text(
     refs: &[u32],
     out: &mut [u8],
 ) -> Answered
-    ensures { λ r. ⌜ Given (λ a. Written (lent start (now (nodes .entry)) (now (edges .entry)) (now (refs .entry)))
+    ensures { λ r. ⌜ Given Told (λ a. Written
+        (slices start (now (nodes .entry)) (now (edges .entry)) (now (refs .entry)))
         (now (out .entry)) a (now (out .exit))) r ⌝ }
 {
-    tell(text::write::write_text(start, nodes, edges, refs, out))
+    let n = nodes.len() / NODE_WIDTH;
+    let m = edges.len() / EDGE_WIDTH;
+    let k = refs.len() / REF_WIDTH;
+    tell(text::write::write_text(start, nodes, n, edges, m, refs, k, out))
 }
 
 // Read text: the tables that the text holds, at the front of those that are lent.
@@ -94,7 +112,7 @@ pub extern "C" fn bw_read_text(
     edges: &mut [u32],
     refs: &mut [u32],
 ) -> Reading
-    ensures { λ r. ⌜ GivenReading (λ x. Read (now (text .entry)) (now (nodes .entry)) (now (edges .entry))
+    ensures { λ r. ⌜ Given Retold (λ x. Read (now (text .entry)) (now (nodes .entry)) (now (edges .entry))
         (now (refs .entry)) x (now (nodes .exit)) (now (edges .exit)) (now (refs .exit))) r ⌝ }
 {
     let x = text::read::read_text(text, nodes, edges, refs);

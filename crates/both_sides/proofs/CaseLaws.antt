@@ -14,11 +14,12 @@ use Prim.Native.Nat.{ℕ, _+_, _<_}
 use lib.ListN.{length, getD, set, length-set}
 use lib.Seq.{getD-set-same, getD-set-other}
 use borrow.Author.Count.{below-more}
+use Rattle.tables.specs.Tables.{Tables}
 use Rattle.verdict.specs.Checked.{Checked}
 use Rattle.snapshot.specs.Answers.{Snapshot}
 use Rattle.repair.specs.Answers.{Repaired}
 use Rattle.bindlewort.specs.declared.Answered.{Answered}
-use Rattle.bindlewort.specs.Given.{Given}
+use Rattle.bindlewort.specs.Given.{Told, Given}
 use Rattle.bindlewort.proofs.Demands.{check-unique, snapshot-unique, repair-unique}
 use Rattle.both_sides.specs.Cases.{Counted, elements}
 
@@ -46,25 +47,24 @@ module _ {A : Type 0} (G : Answered → A → Type 0)
       let k = allowed g in
       subst (Counted (G b v)) (sym e) (counted t (λ z. k .0 (w .0 z), λ z. w .1 (k .1 z)))
 
-module _ {start : ℕ} {ns es : List ℕ} {a b : Answered} {k : Bool} {r : ℕ} (counts : r ≡ cond k 1 0) where
-  pub check-counted : {rs : List ℕ} → Given (Checked start ns es rs) a → (k ≡ true) ↔ (a ≡ b)
-      → Counted (Given (Checked start ns es rs) b) r
-  check-counted {rs} g w =
-      case-counted (λ (x : Answered) (u : Unit {0}). Given (Checked start ns es rs) x)
-      (λ x y u v p q. (check-unique start ns es rs x p y q, refl)) {u = tt} {v = tt} g
+module _ {L : Tables} {a b : Answered} {k : Bool} {r : ℕ} (counts : r ≡ cond k 1 0) where
+  pub check-counted : Given Told (Checked L) a → (k ≡ true) ↔ (a ≡ b) → Counted (Given Told (Checked L) b) r
+  check-counted g w =
+      case-counted (λ (x : Answered) (u : Unit {0}). Given Told (Checked L) x)
+      (λ x y u v p q. (check-unique L x p y q, refl)) {u = tt} {v = tt} g
       (λ e. (w .0 e, refl), λ e. w .1 (e .0)) counts
 
-  pub snapshot-counted : {rs before u v : List ℕ} {t : ℕ} → Given (λ x. Snapshot start ns es rs t before x u) a
-      → (k ≡ true) ↔ ((a ≡ b) × (u ≡ v)) → Counted (Given (λ x. Snapshot start ns es rs t before x v) b) r
-  snapshot-counted {rs} {before} {t} g w =
-      case-counted (λ x after. Given (λ y. Snapshot start ns es rs t before y after) x)
-      (λ x y u v p q. snapshot-unique start ns es rs t before x u p y v q) g w counts
+  pub snapshot-counted : {before u v : List ℕ} {t : ℕ} → Given Told (λ x. Snapshot L t before x u) a
+      → (k ≡ true) ↔ ((a ≡ b) × (u ≡ v)) → Counted (Given Told (λ x. Snapshot L t before x v) b) r
+  snapshot-counted {before} {t} g w =
+      case-counted (λ x after. Given Told (λ y. Snapshot L t before y after) x)
+      (λ x y u v p q. snapshot-unique L t before x u p y v q) g w counts
 
-  pub repair-counted : {u v : List ℕ} → Given (λ x. Repaired start ns es x u) a
-      → (k ≡ true) ↔ ((a ≡ b) × (u ≡ v)) → Counted (Given (λ x. Repaired start ns es x v) b) r
+  pub repair-counted : {u v : List ℕ} → Given Told (λ x. Repaired L x u) a
+      → (k ≡ true) ↔ ((a ≡ b) × (u ≡ v)) → Counted (Given Told (λ x. Repaired L x v) b) r
   repair-counted g w =
-      case-counted (λ x left. Given (λ y. Repaired start ns es y left) x)
-      (λ x y u v p q. repair-unique start ns es x u p y v q) g w counts
+      case-counted (λ x left. Given Told (λ y. Repaired L y left) x)
+      (λ x y u v p q. repair-unique L x u p y v q) g w counts
 
 -- before turn i, the table is as long as it was, and each number below i is an element's
 pub record Filled (before nodes : List ℕ) (i : ℕ) : Type 0 where

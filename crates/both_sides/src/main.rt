@@ -9,7 +9,7 @@ ghost use lib.ListN.{length, getD, replicate};
 ghost use Rattle.verdict.specs.Checked.{Checked};
 ghost use Rattle.snapshot.specs.Answers.{Snapshot};
 ghost use Rattle.repair.specs.Answers.{Repaired};
-ghost use Rattle.bindlewort.specs.Given.{Given};
+ghost use Rattle.bindlewort.specs.Given.{slices, Told, Given};
 ghost use Rattle.both_sides.specs.Cases.{Counted, elements};
 use bindlewort::Answered;
 use bindlewort::bw_check;
@@ -96,7 +96,7 @@ fn report(a: Answered, agrees: bool) -> u32
 }
 
 fn check_is(case: &[u8], nodes: &[u32], edges: &[u32], stated: Answered) -> u32
-    ensures { λ r. ⌜ Counted (Given (Checked 0 (now (nodes .entry)) (now (edges .entry)) []) stated) r ⌝ }
+    ensures { λ r. ⌜ Counted (Given Told (Checked (slices 0 (now (nodes .entry)) (now (edges .entry)) [])) stated) r ⌝ }
 {
     io::write_all(STDOUT_FILENO, case);
     io::write_all(STDOUT_FILENO, b", check");
@@ -114,7 +114,8 @@ fn snapshot_is(
     stated: Answered,
     left: &[u32],
 ) -> u32
-    ensures { λ r. ⌜ Counted (Given (λ a. Snapshot start (now (nodes .entry)) (now (edges .entry)) (now (refs .entry))
+    ensures { λ r. ⌜ Counted (Given Told (λ a. Snapshot
+        (slices start (now (nodes .entry)) (now (edges .entry)) (now (refs .entry)))
         t (replicate 12 7) a (now (left .entry))) stated) r ⌝ }
 {
     io::write_all(STDOUT_FILENO, case);
@@ -126,8 +127,8 @@ fn snapshot_is(
 }
 
 fn repair_is(case: &[u8], nodes: &[u32], edges: &mut [u32], stated: Answered, left: &[u32]) -> u32
-    ensures { λ r. ⌜ Counted (Given (λ a. Repaired 0 (now (nodes .entry)) (now (edges .entry)) a (now (left .entry)))
-        stated) r ⌝ }
+    ensures { λ r. ⌜ Counted (Given Told (λ a. Repaired (slices 0 (now (nodes .entry)) (now (edges .entry)) []) a
+        (now (left .entry))) stated) r ⌝ }
 {
     io::write_all(STDOUT_FILENO, case);
     io::write_all(STDOUT_FILENO, b", repair");

@@ -20,12 +20,13 @@ use Rattle.answers.specs.declared.Answer.the-variants.{Text}
 use Rattle.answers.specs.Numbers.{numbers, refuses}
 use Rattle.tables.specs.Instants.{Now}
 use Rattle.tables.specs.Rows.{nodeWidth, edgeWidth, refWidth}
-use Rattle.tables.specs.Rules.{mostNodes, mostEdges, mostRefs}
+use Rattle.tables.specs.Tables.{Tables}
+use Rattle.tables.specs.Sizes.{mostNodes, mostEdges, mostRefs}
 use Rattle.lines.specs.Lines.{oneLine, joined}
 use Rattle.lines.proofs.WriteLaws.{one-short}
 use Rattle.text.specs.declared.read.Reading.{Reading}
-use Rattle.text.specs.Text.{Tables, Lendable}
-use Rattle.text.specs.Answers.{Fits, Read, wrong-text, no-room, took}
+use Rattle.text.specs.Text.{Lendable}
+use Rattle.text.specs.Answers.{Fits, Read, wrong-text, no-room, took, fronts}
 use Rattle.text.proofs.RoundTrip.{accepted-unique, accepted-or-not, place-unique}
 use Rattle.text.proofs.PromiseLaws.{short-not-fits, read-fronts}
 use Rattle.verdict.specs.Checked.{Checked}
@@ -37,10 +38,11 @@ most-fits : (t : Tables) {n e f : List ℕ} → Lendable t → length n ≡ most
     → length f ≡ mostRefs * refWidth
     → Fits t n e f
 most-fits t o x y z =
-    let (i, p, _, a) = o .nodes-size in
-    let (j, q, _, b) = o .edges-size in
-    let (k, r, _, c) = o .refs-size in
-    record { nodes = omega arith; edges = omega arith; refs = omega arith }
+    record {
+      nodes = omega (arith, o .nodes .whole, o .nodes .most);
+      edges = omega (arith, o .edges .whole, o .edges .most);
+      refs = omega (arith, o .refs .whole, o .refs .most);
+    }
 
 front-fits : (old vs : List ℕ) → length vs ≤ length (front vs old)
 front-fits old vs = omega (arith, length-append vs (drop (length vs) old))
@@ -60,15 +62,14 @@ module _ {s n e f : List ℕ} where
   read-fits (wrong-text x p) c = absurd (false≢true (sym c))
   read-fits (no-room a x) c = absurd (false≢true (sym c))
   read-fits (took {t} a h) c = (
-    omega (arith, front-fits n (t .nodes)),
-    omega (arith, front-fits e (t .edges)),
-    omega (arith, front-fits f (t .refs)),
+    omega (arith, front-fits n (t .nodes .numbers)),
+    omega (arith, front-fits e (t .edges .numbers)),
+    omega (arith, front-fits f (t .refs .numbers)),
   )
 
   pub read-says : {r : Reading} {n′ e′ f′ : List ℕ} {a : Answer} → Read s n e f r n′ e′ f′
       → refuses (r .answer) ≡ false
-      → Checked (r .start) (take (r .nodes * nodeWidth) n′) (take (r .edges * edgeWidth) e′)
-      (take (r .refs * refWidth) f′) a
+      → Checked (fronts r n′ e′ f′) a
       → Says s a
   read-says w c h = read (read-fronts w c) h
 
@@ -76,12 +77,12 @@ pub says-unique : {s : List ℕ} {a b : Answer} → Says s a → Says s b → a 
 says-unique {s} (unread x p) (unread y q) = ap Text (place-unique s _ _ p q)
 says-unique (unread x p) (read u d) = absurd (x _ u)
 says-unique (read t c) (unread y q) = absurd (y _ t)
-says-unique (read t c) (read u d) = checked-unique _ _ _ _ c (rw (accepted-unique u t) at d)
+says-unique (read t c) (read u d) = checked-unique _ c (rw (accepted-unique u t) at d)
 
 pub says-exists : (s : List ℕ) → (a : Answer) × Says s a
 says-exists s =
     ⊎-elim
-    (λ (t, x). (_, read x (checked-exists (t .start) (t .nodes) (t .edges) (t .refs))))
+    (λ (t, x). (_, read x (checked-exists t)))
     (λ (p, none, w). (_, unread none w))
     (accepted-or-not s)
 

@@ -12,9 +12,9 @@ use Rattle.ground.specs.Stores.{Put}
 use Rattle.answers.specs.declared.Answer.{Answer}
 use Rattle.answers.specs.declared.Answer.the-variants.{Text}
 use Rattle.answers.specs.Numbers.{numbers}
+use Rattle.tables.specs.Tables.{Tables}
 use Rattle.lines.specs.Lines.{oneLine, joined}
 use Rattle.lines.specs.Sizes.{mostLine}
-use Rattle.text.specs.Text.{Tables}
 use Rattle.text.specs.Place.{FirstWrong}
 use Rattle.text.specs.Answers.{Accepted, NotOfForm}
 use Rattle.verdict.specs.Checked.{Checked}
@@ -22,7 +22,7 @@ use Rattle.verdict.specs.Checked.{Checked}
 -- [01:The text] "the code, instant and place of read if that refused, else of check"
 pub data Says (s : List ℕ) : Answer → Type 0 where
   unread : {p : ℕ} → NotOfForm s → FirstWrong s p → Says s (Text p)
-  read : {t : Tables} {a : Answer} → Accepted s t → Checked (t .start) (t .nodes) (t .edges) (t .refs) a → Says s a
+  read : {t : Tables} {a : Answer} → Accepted s t → Checked t a → Says s a
 
 -- [01:The text] "`check` reads such text from standard input, at most 32,768 bytes (longer: 31, place 32768)"
 abbrev pub mostInput : ℕ

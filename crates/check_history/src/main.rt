@@ -9,12 +9,12 @@ use answers::Answer;
 use libc::STDIN_FILENO;
 use libc::STDOUT_FILENO;
 use lines::write::write_one;
-use tables::judge::MOST_EDGES;
-use tables::judge::MOST_NODES;
-use tables::judge::MOST_REFS;
 use tables::rows::EDGE_WIDTH;
 use tables::rows::NODE_WIDTH;
 use tables::rows::REF_WIDTH;
+use tables::sizes::MOST_EDGES;
+use tables::sizes::MOST_NODES;
+use tables::sizes::MOST_REFS;
 use text::read::read_text;
 use verdict::check;
 
@@ -35,10 +35,13 @@ fn answer(text: &[u8]) -> Answer
     if said.refuses() {
         return said;
     }
-    let n = (r.nodes as usize) * NODE_WIDTH;
-    let m = (r.edges as usize) * EDGE_WIDTH;
-    let k = (r.refs as usize) * REF_WIDTH;
-    check(r.start, &nodes[..n], &edges[..m], &refs[..k])
+    let n = r.nodes as usize;
+    let m = r.edges as usize;
+    let k = r.refs as usize;
+    let a = n * NODE_WIDTH;
+    let b = m * EDGE_WIDTH;
+    let c = k * REF_WIDTH;
+    check(r.start, &nodes[..a], n, &edges[..b], m, &refs[..c], k)
 }
 
 // What the input answers. A text that is longer than may be read is not looked at.

@@ -44,20 +44,20 @@ returns c =
 cast-n : tie.Need-cast-n
 cast-n c = search needs
 
-mul-n : tie.Need-mul-n
-mul-n c = search needs
-
 cast-m : tie.Need-cast-m
 cast-m c = search needs
-
-mul-m : tie.Need-mul-m
-mul-m c = search needs
 
 cast-k : tie.Need-cast-k
 cast-k c = search needs
 
-mul-k : tie.Need-mul-k
-mul-k c = search needs
+mul-a : tie.Need-mul-a
+mul-a c = search needs
+
+mul-b : tie.Need-mul-b
+mul-b c = search needs
+
+mul-c : tie.Need-mul-c
+mul-c c = search needs
 
 array-share-prefix-nodes : tie.Need-array-share-prefix-nodes
 array-share-prefix-nodes c = fits (c .before .before .before) .0
@@ -96,11 +96,11 @@ answer-spec =
     refuses-requires
     returns
     cast-n
-    mul-n
     cast-m
-    mul-m
     cast-k
-    mul-k
+    mul-a
+    mul-b
+    mul-c
     array-share-prefix-nodes
     slice-aggregate-check
     array-share-prefix-edges
