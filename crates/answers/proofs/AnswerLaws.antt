@@ -9,23 +9,10 @@ use Rattle.ground.specs.Lists.{isAmong}
 use Rattle.ground.proofs.TestLaws.{by-test}
 use Rattle.answers.specs.declared.Fault.{Fault}
 use Rattle.answers.specs.declared.Answer.{Answer}
-use Rattle.answers.specs.declared.Answer.the-variants.{
-  Done,
-  Size,
-  Start,
-  Node,
-  Edge,
-  Reference,
-  Faulty,
-  Room,
-  Tie,
-  Early,
-  Deep,
-  Text,
-  TextRoom,
-}
-use Rattle.answers.specs.Numbers.{Numbers, codeOf, fault, numbers, refuses}
-use Rattle.answers.specs.Refusals.{when, _⨾_}
+use Rattle.answers.specs.declared.Answer.the-variants.{Done, Size, Start, Node, Edge, Reference, Faulty, Room}
+use Rattle.answers.specs.declared.Answer.the-variants.{Tie, Early, Deep, Text, TextRoom}
+use Rattle.answers.specs.Numbers.{Numbers, codeOf, numbers, refuses}
+use Rattle.answers.specs.Refusals.{fault, when, _⨾_}
 use Rattle.answers.proofs.KindLaws.{kindOf, kind-back, code-unique, every-kind}
 
 pub fault-unique : (f g : Fault) → codeOf (f .kind) ≡ codeOf (g .kind) → f .place ≡ g .place → f ≡ g

@@ -14,7 +14,8 @@ use Rattle.ground.specs.Lists.{isAmong}
 use Rattle.ground.proofs.TestLaws.{by-test, both}
 use Rattle.answers.specs.declared.Kind.{Kind}
 use Rattle.answers.specs.declared.Kind.the-variants.{Overlap, Gap, Outside, Cycle, Late, Dangling}
-use Rattle.answers.specs.Numbers.{codeOf, kinds}
+use Rattle.answers.specs.Numbers.{codeOf}
+use Rattle.answers.specs.Refusals.{kinds}
 
 -- the first kind of a list that has a code, or k
 abbrev find : ℕ → Kind → List Kind → Kind

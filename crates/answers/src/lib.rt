@@ -1,7 +1,8 @@
 // What the calls answer. The paper's numbers stand in specs/Numbers.antt and, for the running program, in the two
 // functions `code` below: nowhere else in the library.
 ghost use mathlib.Core.Path.{_≡_};
-ghost use Rattle.answers.specs.Numbers.{codeOf, fault, numbers, refuses};
+ghost use Rattle.answers.specs.Numbers.{codeOf, numbers, refuses};
+ghost use Rattle.answers.specs.Refusals.{fault};
 
 // The kinds of faults, in the order of their codes.
 pub enum Kind {

@@ -16,9 +16,8 @@ use Rattle.answers.specs.declared.Answer.the-variants.{Room}
 use Rattle.answers.specs.Numbers.{codeOf, numbers}
 use Rattle.answers.proofs.KindLaws.{every-kind}
 use Rattle.tables.specs.Tables.{Table, Tables, table}
-use Rattle.tables.specs.Gives.{Gives, nodes-size, edges-size, refs-size, start-now, node, edge, reference, nothing}
-use Rattle.history.specs.History.{History, held}
-use Rattle.history.specs.Verdict.{Shown, accepted, refused}
+use Rattle.tables.specs.Rules.{Gives, nodes-size, edges-size, refs-size, start-now, node, edge, reference, nothing}
+use Rattle.history.specs.Faults.{History, held, Shown, accepted, refused}
 use Rattle.verdict.specs.Checked.{Checked, ruled-out, judged}
 use Rattle.snapshot.specs.Ready.{Unready, ruled-out as unready-ruled-out, early, faulty, deep}
 use Rattle.snapshot.specs.Answers.{Answers, unready, short, done}
@@ -27,31 +26,11 @@ use Rattle.snapshot.proofs.ReadyLaws.{never-deep}
 use Rattle.snapshot.proofs.Contained.{rows-needed}
 use Rattle.repair.specs.Answers.{Answers as RepairAnswers, ruled-out as repair-ruled-out, tie, done as repair-done}
 use Rattle.text.specs.declared.read.Reading.{Reading as TextReading}
-use Rattle.text.specs.Answers.{
-  Written,
-  out-of-size,
-  short as text-short,
-  wrote,
-  Read,
-  wrong-text,
-  no-room,
-  took,
-}
+use Rattle.text.specs.Answers.{Written, out-of-size, short as text-short, wrote, Read, wrong-text, no-room, took}
 use Rattle.text.proofs.PromiseLaws.{write-unique, read-unique}
-use Rattle.bindlewort.specs.Codes.{
-  containmentCodes,
-  ruleCodes,
-  faultCodes,
-  checkCodes,
-  snapshotOnly,
-  snapshotCodes,
-  repairOnly,
-  repairCodes,
-  writeCodes,
-  readCodes,
-  WriteAnswers,
-  ReadAnswers,
-}
+use Rattle.bindlewort.specs.Codes.{containmentCodes, ruleCodes, faultCodes, checkCodes, snapshotOnly}
+use Rattle.bindlewort.specs.Codes.{snapshotCodes, repairOnly, repairCodes, writeCodes, readCodes, WriteAnswers}
+use Rattle.bindlewort.specs.Codes.{ReadAnswers}
 
 among-left : (xs ys : List ℕ) (c : ℕ) → isAmong xs c ≡ true → isAmong (xs ++ ys) c ≡ true
 among-left [] ys c e = absurd (false≢true e)

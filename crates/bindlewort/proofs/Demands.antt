@@ -10,17 +10,13 @@ use Rattle.ground.specs.Lists.{front, All}
 use Rattle.answers.specs.declared.Fault.{Fault}
 use Rattle.answers.specs.declared.Answer.{Answer}
 use Rattle.answers.specs.declared.Answer.the-variants.{Done, Room, Faulty}
-use Rattle.answers.specs.Numbers.{Numbers, numbers}
-use Rattle.answers.specs.Refusals.{passed}
+use Rattle.answers.specs.Numbers.{Numbers, numbers, passed}
 use Rattle.answers.proofs.AnswerLaws.{answer-unique}
-use Rattle.tables.specs.Instants.{Now}
-use Rattle.tables.specs.Rows.{nodeWidth, edgeWidth, refWidth, edgeAt}
-use Rattle.tables.specs.Tables.{Tables, edgeIn}
-use Rattle.tables.specs.Says.{Obeys}
-use Rattle.history.specs.History.{History, Ruled, held}
-use Rattle.history.specs.Faults.{Holds}
+use Rattle.tables.specs.Tables.{Now, nodeWidth, edgeWidth, refWidth, edgeAt, Tables, edgeIn}
+use Rattle.tables.specs.Rules.{Obeys}
+use Rattle.history.specs.Faults.{History, held, Holds, First, Verdict, accepted, refused}
+use Rattle.history.specs.Ruled.{Ruled}
 use Rattle.history.specs.Sound.{Sound}
-use Rattle.history.specs.Verdict.{First, Verdict, accepted, refused}
 use Rattle.history.proofs.RuledLaws.{obeys-ruled}
 use Rattle.history.proofs.VerdictLaws.{verdict-unique, accepted-sound, refused-unsound}
 use Rattle.verdict.specs.Checked.{Checked}
@@ -33,53 +29,20 @@ use Rattle.repair.specs.Answers.{Answers as RepairAnswers, Repaired}
 use Rattle.repair.proofs.Repaired.{answers-unique as repair-answers-unique, repaired-unique, done-one}
 use Rattle.text.specs.Text.{Small, textOf}
 use Rattle.text.specs.Answers.{Written, readingOf as tells, Fits, Read, fronts}
-use Rattle.text.proofs.PromiseLaws.{
-  write-unique as written-unique,
-  write-frame as written-frame,
-  write-holds,
-  read-unique as taken-unique,
-  read-frame as taken-frame,
-  read-written,
-  read-fronts,
-  write-read,
-}
+use Rattle.text.proofs.PromiseLaws.{write-unique as written-unique, write-frame as written-frame, write-holds}
+use Rattle.text.proofs.PromiseLaws.{read-unique as taken-unique, read-frame as taken-frame, read-written, read-fronts}
+use Rattle.text.proofs.PromiseLaws.{write-read}
 use Rattle.bindlewort.specs.declared.Answered.{Answered}
 use Rattle.bindlewort.specs.declared.Reading.{Reading}
 use Rattle.bindlewort.specs.Given.{slices, told, Told, Retold, Given}
-use Rattle.bindlewort.specs.Codes.{
-  checkCodes,
-  snapshotCodes,
-  repairCodes,
-  writeCodes,
-  readCodes,
-  WriteAnswers,
-  ReadAnswers,
-  Exactly,
-}
+use Rattle.bindlewort.specs.Codes.{checkCodes, snapshotCodes, repairCodes, writeCodes, readCodes, WriteAnswers}
+use Rattle.bindlewort.specs.Codes.{ReadAnswers, Exactly}
 use Rattle.bindlewort.specs.Cases.{Promised, cases}
-use Rattle.bindlewort.proofs.GivenLaws.{
-  reading,
-  retold-unique,
-  retold-nothing,
-  told-refuses,
-  told-done,
-  told-same,
-  slices-whole,
-  given-unique,
-  given-exactly,
-  given-outcome,
-}
+use Rattle.bindlewort.proofs.GivenLaws.{reading, retold-unique, retold-nothing, told-refuses, told-done}
+use Rattle.bindlewort.proofs.GivenLaws.{told-same, slices-whole, given-unique, given-exactly, given-outcome}
 use Rattle.bindlewort.proofs.Starred.{starred}
-use Rattle.bindlewort.proofs.CodeLaws.{
-  check-among,
-  snapshot-among,
-  room-needs,
-  repair-among,
-  write-among,
-  write-answers-unique,
-  read-among,
-  read-answers-unique,
-}
+use Rattle.bindlewort.proofs.CodeLaws.{check-among, snapshot-among, room-needs, repair-among, write-among}
+use Rattle.bindlewort.proofs.CodeLaws.{write-answers-unique, read-among, read-answers-unique}
 
 -- ---- demands 1 and 2, call by call
 -- [demand 1] `-exactly`: "Every public call .. ends with one answer of the list", [01:What the calls answer] "Each is

@@ -12,9 +12,8 @@ use Rattle.ground.specs.Lists.{isAmong}
 use Rattle.answers.specs.declared.Answer.{Answer}
 use Rattle.answers.specs.Numbers.{Numbers, numbers, refuses}
 use Rattle.answers.proofs.AnswerLaws.{answer-unique}
-use Rattle.tables.specs.Rows.{nodeWidth, edgeWidth, refWidth}
-use Rattle.tables.specs.Tables.{Table, Tables}
-use Rattle.tables.specs.Sizes.{Whole}
+use Rattle.tables.specs.Tables.{nodeWidth, edgeWidth, refWidth, Table, Tables}
+use Rattle.tables.specs.Rules.{Whole}
 use Rattle.text.specs.declared.read.Reading.{Reading as TextReading}
 use Rattle.text.specs.Answers.{nothing, readingOf as tells}
 use Rattle.bindlewort.specs.declared.Answered.{Answered}

@@ -4,17 +4,18 @@ use mathlib.Core.Path.{_≡_, refl, sym, ap, _∙_, subst}
 use mathlib.Core.List.{List, [], _∷_, map}
 use Prim.Native.Nat.{ℕ}
 use lib.ListN.{length}
-use Rattle.ground.specs.Least.{any, least}
+use Rattle.ground.specs.Searches.{any, least}
 use Rattle.ground.specs.Sums.{sum}
 use Rattle.ground.specs.Lists.{All}
 use Rattle.answers.specs.declared.Answer.{Answer}
-use Rattle.tables.specs.Rows.{nodeAt, edgeAt, refAt, setEnd}
-use Rattle.tables.specs.Sizes.{sizeRule}
-use Rattle.tables.specs.Rules.{badNode, badRow}
+use Rattle.tables.specs.Tables.{nodeAt, edgeAt, refAt}
+use Rattle.tables.specs.Rows.{setEnd}
+use Rattle.tables.specs.Tests.{sizeRule, badNode, badRow}
 use Rattle.tables.specs.Says.{sizesSay, rowsSay, historySays}
-use Rattle.history.specs.History.{held}
+use Rattle.history.specs.Faults.{held}
 use Rattle.history.specs.Computed.{say, verdict}
-use Rattle.verdict.specs.Checked.{Checked, checkSays}
+use Rattle.verdict.specs.Checked.{Checked}
+use Rattle.verdict.specs.Says.{checkSays}
 use Rattle.verdict.proofs.CheckedLaws.{checked-exists}
 use Rattle.snapshot.specs.Walk.{each, subtree, flat}
 use Rattle.snapshot.specs.Depth.{climbs, tooDeep}
@@ -25,19 +26,8 @@ use Rattle.snapshot.proofs.AnswersLaws.{answers-says}
 use Rattle.repair.specs.Ends.{tied, nextStart, lastEnd, newEnd, withEnds, repaired}
 use Rattle.repair.specs.Says.{settleSays, repairSays, repairLeaves}
 use Rattle.repair.proofs.AnswersLaws.{repaired-of}
-use Rattle.bindlewort.specs.Cases.{
-  Call,
-  check,
-  snapshot,
-  repair,
-  Case,
-  tables,
-  output,
-  Promised,
-  said,
-  left,
-  cases,
-}
+use Rattle.bindlewort.specs.Cases.{Call, check, snapshot, repair, Case, tables, output, Promised, said, left}
+use Rattle.bindlewort.specs.Cases.{cases}
 
 -- what the definitions compute for a case, and what the document says of it
 abbrev computed : Case → Answer × List ℕ

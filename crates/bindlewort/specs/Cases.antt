@@ -13,12 +13,12 @@ use Rattle.ground.specs.Lists.{front}
 use Rattle.answers.specs.declared.Kind.the-variants.{Overlap, Gap, Outside, Cycle, Dangling}
 use Rattle.answers.specs.declared.Answer.{Answer}
 use Rattle.answers.specs.declared.Answer.the-variants.{Done, Faulty, Tie}
-use Rattle.answers.specs.Numbers.{fault}
-use Rattle.answers.specs.Refusals.{passed}
-use Rattle.tables.specs.Instants.{Now}
-use Rattle.tables.specs.Tables.{Tables}
-use Rattle.history.specs.History.{held}
-use Rattle.verdict.specs.Checked.{Checked, checkSays}
+use Rattle.answers.specs.Refusals.{fault}
+use Rattle.answers.specs.Numbers.{passed}
+use Rattle.tables.specs.Tables.{Now, Tables}
+use Rattle.history.specs.Faults.{held}
+use Rattle.verdict.specs.Checked.{Checked}
+use Rattle.verdict.specs.Says.{checkSays}
 use Rattle.snapshot.specs.Snapshot.{rowsOf, snapshotSays, written}
 use Rattle.snapshot.specs.Answers.{Snapshot}
 use Rattle.repair.specs.Says.{repairSays, repairLeaves}

@@ -15,20 +15,10 @@ use mathlib.Core.List.{List, [], _∷_, _++_, map}
 use Prim.Native.Nat.{ℕ}
 use Rattle.ground.specs.Lists.{isAmong}
 use Rattle.answers.specs.declared.Answer.{Answer}
-use Rattle.answers.specs.declared.Answer.the-variants.{
-  Size,
-  Start,
-  Node,
-  Edge,
-  Reference,
-  Room,
-  Tie,
-  Early,
-  Text,
-  TextRoom,
-}
-use Rattle.answers.specs.Numbers.{codeOf, kinds, shownKinds, numbers}
-use Rattle.answers.specs.Refusals.{passed}
+use Rattle.answers.specs.declared.Answer.the-variants.{Size, Start, Node, Edge, Reference, Room, Tie, Early, Text}
+use Rattle.answers.specs.declared.Answer.the-variants.{TextRoom}
+use Rattle.answers.specs.Numbers.{codeOf, numbers, passed}
+use Rattle.answers.specs.Refusals.{kinds, shownKinds}
 use Rattle.text.specs.declared.read.Reading.{Reading as TextReading}
 use Rattle.tables.specs.Tables.{Tables}
 use Rattle.text.specs.Answers.{Written, Read}

@@ -10,8 +10,7 @@ use Prim.Native.Nat.{ℕ, _/_}
 use lib.ListN.{length}
 use Rattle.answers.specs.declared.Answer.{Answer}
 use Rattle.answers.specs.Numbers.{Numbers, says, numbers}
-use Rattle.tables.specs.Rows.{nodeWidth, edgeWidth, refWidth}
-use Rattle.tables.specs.Tables.{Tables, lent}
+use Rattle.tables.specs.Tables.{nodeWidth, edgeWidth, refWidth, Tables, lent}
 use Rattle.text.specs.declared.read.Reading.{Reading as TextReading}
 use Rattle.bindlewort.specs.declared.Answered.{Answered}
 use Rattle.bindlewort.specs.declared.Reading.{Reading}

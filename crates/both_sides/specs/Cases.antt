@@ -7,7 +7,7 @@ use mathlib.Core.Bool.{cond}
 use mathlib.Core.Logic.{_↔_}
 use Prim.Native.Nat.{ℕ, _%_, _≤_}
 use lib.Dec.{eqb}
-use Rattle.tables.specs.Rows.{nodeWidth}
+use Rattle.tables.specs.Tables.{nodeWidth}
 
 -- [01:Strength of the promises] "a program runs and compares the others": P, that the call's promise allows what is
 -- stated, holds exactly where the program counts the case

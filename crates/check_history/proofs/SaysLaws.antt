@@ -18,10 +18,8 @@ use Rattle.ground.proofs.ListLaws.{put-nil, put-append}
 use Rattle.answers.specs.declared.Answer.{Answer}
 use Rattle.answers.specs.declared.Answer.the-variants.{Text}
 use Rattle.answers.specs.Numbers.{numbers, refuses}
-use Rattle.tables.specs.Instants.{Now}
-use Rattle.tables.specs.Rows.{nodeWidth, edgeWidth, refWidth}
-use Rattle.tables.specs.Tables.{Tables}
-use Rattle.tables.specs.Sizes.{mostNodes, mostEdges, mostRefs}
+use Rattle.tables.specs.Tables.{Now, nodeWidth, edgeWidth, refWidth, Tables}
+use Rattle.tables.specs.Rules.{mostNodes, mostEdges, mostRefs}
 use Rattle.lines.specs.Lines.{oneLine, joined}
 use Rattle.lines.proofs.WriteLaws.{one-short}
 use Rattle.text.specs.declared.read.Reading.{Reading}

@@ -6,40 +6,34 @@ use mathlib.Core.List.{List, [], _∷_}
 use Prim.Native.Nat.{ℕ, _≤_, _<_}
 use native.Mathlib.Omega.{arith}
 use Rattle.ground.specs.Tests.{Tells}
-use Rattle.ground.specs.Least.{Least, least}
+use Rattle.ground.specs.Least.{Least}
+use Rattle.ground.specs.Searches.{least}
 use Rattle.ground.proofs.TestLaws.{tells-and}
 use Rattle.ground.proofs.LeastLaws.{least-unique, least-tells, least-same, least-none}
 use Rattle.answers.specs.declared.Kind.{Kind}
 use Rattle.answers.specs.declared.Kind.the-variants as kind
 use Rattle.answers.specs.declared.Answer.{Answer}
 use Rattle.answers.specs.declared.Answer.the-variants.{Faulty}
-use Rattle.answers.specs.Numbers.{fault}
-use Rattle.answers.specs.Refusals.{passed}
+use Rattle.answers.specs.Refusals.{fault}
+use Rattle.answers.specs.Numbers.{passed}
 use Rattle.tables.specs.declared.rows.Side.{Side}
 use Rattle.tables.specs.declared.rows.Side.the-variants.{Attribute, Target}
-use Rattle.tables.specs.Instants.{Now}
-use Rattle.tables.specs.Rows.{refAt, sideOf}
+use Rattle.tables.specs.Tables.{Now, refAt}
+use Rattle.tables.specs.Rows.{sideOf}
 use Rattle.tables.proofs.LabelLaws.{during-tells}
-use Rattle.history.specs.History.{History, historyOf, LentRows}
-use Rattle.history.specs.Faults.{Overlap, Here, Astray, HoldsAt, places}
+use Rattle.history.specs.Faults.{History, historyOf, Overlap, Here, HoldsAt}
+use Rattle.history.specs.Ruled.{LentRows}
+use Rattle.history.specs.Places.{Astray, places}
 use Rattle.history.specs.Computed.{holds, say}
 use Rattle.history.proofs.RuledLaws.{ruled-below, ruled-side}
 use Rattle.history.proofs.LineLaws.{lawful}
 use Rattle.history.proofs.SayLaws.{say-found, say-on}
-use Rattle.faults.specs.Stays.{Bounds}
+use Rattle.faults.specs.Spans.{Bounds}
 use Rattle.faults.specs.Walks.{Back}
 use Rattle.faults.specs.Leaves.{isMany, isGap, Parts, isStray, Referring}
 use Rattle.faults.specs.Judged.{Seen, Clear, Finds, Rest}
-use Rattle.faults.proofs.LeafLaws.{
-  View,
-  many-tells,
-  absent-tells,
-  gap-tells,
-  parts-outside,
-  outside-parts,
-  back-cycle,
-  cycle-back,
-}
+use Rattle.faults.proofs.LeafLaws.{View, many-tells, absent-tells, gap-tells, parts-outside, outside-parts}
+use Rattle.faults.proofs.LeafLaws.{back-cycle, cycle-back}
 
 -- the ends of a history's references are below any number that is no smaller than the count of nodes
 pub lent-referring : {start n m k : ℕ} {es rs : List ℕ} → LentRows start n es m rs k → (w : ℕ) → n ≤ w
@@ -80,8 +74,8 @@ module _ {H : History} {t : ℕ} {up : List ℕ} (s : Seen H t up) where
       → x ≡ least (isGap up first last t) (H .nodes) → x ≡ least (holds H t kind.Gap) (places H kind.Gap)
   gap-line now {first} {last} b =
       test-is kind.Gap (isGap up first last t)
-      (λ q h. gap-tells view now (λ j l. s .ruled .edge-ruled j l .ends) q h first last
-      (b .stays q (omega (arith, b .firsts))))
+      (λ q h. gap-tells view now (λ j l. s .ruled .edge-fits j l .ends) q h first last
+      (b .spans q (omega (arith, b .firsts))))
 
   -- LATE and DANGLING: where a reference is in force, a node is absent by its slot exactly if it is not present
   stray-tells : (side : Side) (k : ℕ) → k < H .refs → Tells (isStray up t side (H .ref k)) (Astray H t side k)
@@ -95,7 +89,7 @@ module _ {H : History} {t : ℕ} {up : List ℕ} (s : Seen H t up) where
     where
       ne : (H .ref k .from ≤ t) × (t ≤ H .ref k .to) → (Here H t (sideOf side (H .ref k)) → ⊥)
           → sideOf side (H .ref k) ≢ 0
-      ne f away e = away (inl (e, omega (arith, s .ruled .ref-ruled k h .begins)))
+      ne f away e = away (inl (e, omega (arith, s .ruled .ref-fits k h .begins)))
 
 -- what each leaf after GAP finds
 module _ {n : ℕ} {rs : List ℕ} {k t : ℕ} {up : List ℕ} {x : ℕ} where

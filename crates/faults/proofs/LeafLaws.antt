@@ -9,38 +9,25 @@ use native.Mathlib.Omega.{arith}
 use lib.ListN.{length, getD}
 use Rattle.ground.specs.Tests.{Tells}
 use Rattle.ground.proofs.TestLaws.{tells-and, tells-not, tells-lt, tells-eq}
-use Rattle.tables.specs.Instants.{Now}
-use Rattle.tables.specs.Rows.{noNode, Edge}
-use Rattle.tables.specs.Sizes.{mostNodes}
-use Rattle.history.specs.Faults.{
-  Into,
-  Out,
-  Ended,
-  Coming,
-  NoneInto,
-  Chain,
-  Overlap,
-  Gap,
-  Outside,
-  Cycle,
-  Leads,
-  NodesBelow,
-}
+use Rattle.tables.specs.Tables.{Now, noNode, EdgeRow}
+use Rattle.tables.specs.Rules.{mostNodes}
+use Rattle.history.specs.Faults.{Into, Out, Ended, Coming, NoneInto, Chain, Overlap, Gap, Outside, Cycle}
+use Rattle.history.specs.Places.{Leads, NodesBelow}
 use Rattle.history.proofs.ComputedLaws.{leads-into, into-leads}
 use Rattle.faults.specs.Slots.{Many, Slot, empty, single, several, Slots}
-use Rattle.faults.specs.Stays.{Stay}
+use Rattle.faults.specs.Spans.{Span}
 use Rattle.faults.specs.Walks.{above, climb, Back}
 use Rattle.faults.specs.Leaves.{isMany, isAbsent, isGap, Parts}
 use Rattle.faults.proofs.WalkLaws.{above-in, climb-none, climb-suc, climb-stays}
 
 -- the slots of n nodes after all m rows: what the leaves see of an instant
-pub record View (m : ℕ) (E : ℕ → Edge) (t n : ℕ) (up : List ℕ) : Type 0 where
+pub record View (m : ℕ) (E : ℕ → EdgeRow) (t n : ℕ) (up : List ℕ) : Type 0 where
   pub below : NodesBelow m E n
   pub few : n ≤ mostNodes
   pub long : n ≤ length up
   pub slots : Slots E t m up
 
-module _ {m : ℕ} {E : ℕ → Edge} {t n : ℕ} {up : List ℕ} (v : View m E t n up) where
+module _ {m : ℕ} {E : ℕ → EdgeRow} {t n : ℕ} {up : List ℕ} (v : View m E t n up) where
   small : (j : ℕ) → j < m → E j .parent < Many
   small j h = omega (arith, v .below j h .0, v .few)
 
@@ -89,7 +76,7 @@ module _ {m : ℕ} {E : ℕ → Edge} {t n : ℕ} {up : List ℕ} (v : View m E 
   -- GAP: of an absent node, a row ended exactly if the first start is before t, and one comes exactly if the last end
   -- is after t
   module _ (now : t ≤ Now) (ordered : (j : ℕ) → j < m → E j .from ≤ E j .to) (c first last : ℕ)
-      (stay : Stay E c m first last) (away : NoneInto m E t c) where
+      (stay : Span E c m first last) (away : NoneInto m E t c) where
     ended-row : (j : ℕ) → j < m → E j .child ≡ c → E j .from < t → E j .to < t
     ended-row j h e l = go (decLe t (E j .to))
       where
@@ -119,7 +106,7 @@ module _ {m : ℕ} {E : ℕ → Edge} {t n : ℕ} {up : List ℕ} (v : View m E 
     )
 
   pub gap-tells : t ≤ Now → ((j : ℕ) → j < m → E j .from ≤ E j .to) → (c : ℕ) → c < n → (first last : List ℕ)
-      → Stay E c m (getD first c 0) (getD last c 0)
+      → Span E c m (getD first c 0) (getD last c 0)
       → Tells (isGap up first last t c) (Gap m E t c)
   gap-tells now ordered c l first last stay =
       Iff·trans (tells-and _ _ (absent-tells c l)

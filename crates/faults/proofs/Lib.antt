@@ -1,5 +1,5 @@
 pub mod SlotLaws
-pub mod StayLaws
+pub mod SpanLaws
 pub mod WalkLaws
 pub mod MarkLaws
 pub mod PartLaws

@@ -8,10 +8,10 @@ use native.Mathlib.Omega.{arith}
 use borrow.Author.Count.{below-more}
 use lib.ListN.{length, getD, set, replicate, getD-replicate, length-replicate, length-set}
 use lib.Seq.{getD-set-same, getD-set-other}
-use Rattle.tables.specs.Rows.{noNode}
-use Rattle.tables.specs.Sizes.{mostNodes}
+use Rattle.tables.specs.Tables.{noNode}
+use Rattle.tables.specs.Rules.{mostNodes}
 use Rattle.faults.specs.Walks.{above, climb}
-use Rattle.faults.specs.Marks.{Ends, NoBack, SomeBack, Done, Kept, Walked}
+use Rattle.faults.specs.Marks.{RunsOut, NoBack, SomeBack, Done, MarksStay, Marked}
 use Rattle.faults.proofs.WalkLaws.{above-in, climb-none, climb-add, climb-one, climb-next, ends-no-back}
 
 -- how many elements are 0: it falls with each mark
@@ -40,19 +40,19 @@ module _ (up : List ℕ) (n : ℕ) where
   reaches-next : (k x : ℕ) → Reaches k x → Reaches k (above up n x)
   reaches-next k x (d, e) = (suc d, climb-next up n (suc d) k ∙ ap (above up n) e)
 
-  reaches-ends : (k x : ℕ) → Reaches k x → Ends up n x → Ends up n k
+  reaches-ends : (k x : ℕ) → Reaches k x → RunsOut up n x → RunsOut up n k
   reaches-ends k x (d, e) (f, o) = (suc d + f, rw (climb-add up n (suc d) f k, e) o)
 
-  pub ends-here : (b : ℕ) → n ≤ b → Ends up n b
+  pub ends-here : (b : ℕ) → n ≤ b → RunsOut up n b
   ends-here b l = (0, rw (climb-none up n b) l)
 
   -- within a walk from start that has come to x. The marks of this walk are start + 1
   pub record Walking (start : ℕ) (old mark : List ℕ) (x : ℕ) : Type 0 where
     pub long : length mark ≡ length old
     pub others : (k : ℕ) → k < n → (getD mark k 0 ≡ 0 → ⊥) → (getD mark k 0 ≡ start + 1 → ⊥)
-        → Ends up n k × (getD mark k 0 ≤ start)
+        → RunsOut up n k × (getD mark k 0 ≤ start)
     pub ours : (k : ℕ) → k < n → getD mark k 0 ≡ start + 1 → Reaches k x
-    pub kept : Kept up n old mark
+    pub kept : MarksStay up n old mark
     pub from : (x ≡ start) ⊎ (getD mark start 0 ≡ 0 → ⊥)
 
   -- the loop holds the walk's mark in stamp
@@ -84,7 +84,7 @@ module _ (up : List ℕ) (n : ℕ) where
 
       steps-others : (k : ℕ) → k < n → (getD (set mark x (start + 1)) k 0 ≡ 0 → ⊥)
           → (getD (set mark x (start + 1)) k 0 ≡ start + 1 → ⊥) → Dec (k ≡ x)
-          → Ends up n k × (getD (set mark x (start + 1)) k 0 ≤ start)
+          → RunsOut up n k × (getD (set mark x (start + 1)) k 0 ≤ start)
       steps-others k l z o (yes e) = absurd (o (at-x k e))
       steps-others k l z o (no e) =
           let (a, b) = w .others k l (λ q. z (other k e ∙ q)) (λ q. o (other k e ∙ q)) in
@@ -121,8 +121,8 @@ module _ (up : List ℕ) (n : ℕ) where
       walk-meets e = (x, lx, w .ours x lx e)
 
     -- the walk has come to x, whose walk is known to end
-    pub walk-ends : {mark : List ℕ} {x : ℕ} → Walking start old mark x → Ends up n x
-        → (x ≡ start → getD mark x 0 ≡ 0 → ⊥) → Walked up n start old mark
+    pub walk-ends : {mark : List ℕ} {x : ℕ} → Walking start old mark x → RunsOut up n x
+        → (x ≡ start → getD mark x 0 ≡ 0 → ⊥) → Marked up n start old mark
     walk-ends {mark} {x} w e f =
         record {
           done = λ k l z. all k l z (ℕ-discrete (getD mark k 0)
@@ -132,7 +132,7 @@ module _ (up : List ℕ) (n : ℕ) where
         }
       where
         all : (k : ℕ) → k < n → (getD mark k 0 ≡ 0 → ⊥) → Dec (getD mark k 0 ≡ start + 1)
-            → Ends up n k × (getD mark k 0 ≤ start + 1)
+            → RunsOut up n k × (getD mark k 0 ≤ start + 1)
         all k l z (yes q) = (reaches-ends k x (w .ours k l q) e, omega arith)
         all k l z (no q) = let (a, b) = w .others k l z q in (a, omega arith)
 
@@ -157,7 +157,7 @@ module _ (up : List ℕ) (n : ℕ) where
       }
 
   module _ {start : ℕ} {old : List ℕ} (s : Settling start old) where
-    pub settling-on : start < n → {mark : List ℕ} → length mark ≡ length old → Walked up n start old mark
+    pub settling-on : start < n → {mark : List ℕ} → length mark ≡ length old → Marked up n start old mark
         → Settling (start + 1) mark
     settling-on h e w =
         record {

@@ -11,13 +11,13 @@ use lib.ListN.{length, getD, set, replicate, length-set, getD-replicate, length-
 use lib.Seq.{getD-set-same, getD-set-other}
 use Rattle.ground.proofs.LeastLaws.{before-more}
 use Rattle.ground.proofs.TestLaws.{tells-fail}
-use Rattle.tables.specs.Instants.{During, during}
-use Rattle.tables.specs.Rows.{noNode, Edge, edgeAt}
-use Rattle.tables.specs.Sizes.{mostNodes}
+use Rattle.tables.specs.Tables.{During, noNode, EdgeRow, edgeAt}
+use Rattle.tables.specs.Labels.{during}
+use Rattle.tables.specs.Rules.{mostNodes}
 use Rattle.tables.proofs.LabelLaws.{during-tells}
-use Rattle.history.specs.History.{LentRows}
-use Rattle.history.specs.Faults.{Leads}
-use Rattle.faults.specs.Slots.{Many, Slot, empty, single, several, Slots, Taking, Fit, Blank, Fresh}
+use Rattle.history.specs.Ruled.{LentRows}
+use Rattle.history.specs.Places.{Leads}
+use Rattle.faults.specs.Slots.{Many, Slot, empty, single, several, Slots, Taking, Fit, BlankSlots, Fresh}
 
 module _ (L : ℕ → Type 0) (value : ℕ → ℕ) (i v : ℕ) where
   last-or : (k : ℕ) → k < i + 1 → (k ≡ i) ⊎ (k < i)
@@ -43,7 +43,7 @@ module _ (L : ℕ → Type 0) (value : ℕ → ℕ) (i v : ℕ) where
     slot-more f (single j h x q u) = several refl j i h (omega arith) x here
     slot-more f (several q j k h l x y) = several refl j k h (omega arith) x y
 
-module _ (E : ℕ → Edge) (t i : ℕ) (up : List ℕ) where
+module _ (E : ℕ → EdgeRow) (t i : ℕ) (up : List ℕ) where
   -- row i is not in force
   pub slots-skip : (During (E i .from) (E i .to) t → ⊥) → Slots E t i up → Slots E t (i + 1) up
   slots-skip f s c h = slot-skip (Leads E t c) (λ j. E j .parent) i (getD up c 0) (λ x. f (x .1)) (s c h)
@@ -69,12 +69,12 @@ lent-fit l w h =
     record {
       rows = l .edge-rows;
       nodes =
-          λ i g. let e = l .ruled .edge-ruled i g in
+          λ i g. let e = l .ruled .edge-fits i g in
           (omega (arith, e .parent), omega (arith, e .child));
     }
 
 -- before turn i of a pass that began with the slots up₀
-pub taking : {es up₀ up : List ℕ} {t m i : ℕ} → Blank es t m up₀ → length up ≡ length up₀ → i < m
+pub taking : {es up₀ up : List ℕ} {t m i : ℕ} → BlankSlots es t m up₀ → length up ≡ length up₀ → i < m
     → Slots (edgeAt es) t i up → Taking es t i up
 taking b e h s =
     record {
@@ -117,7 +117,7 @@ fresh h =
     }
 
 pub lent-blank : {start n m k : ℕ} {es rs up : List ℕ} → LentRows start n es m rs k → Fresh n up → (t : ℕ)
-    → Blank es t m up
+    → BlankSlots es t m up
 lent-blank l f t =
     record {
       fit = lent-fit l _ (f .long);

@@ -11,9 +11,9 @@ use lib.ListN.{getD}
 use borrow.Author.Count.{below-more}
 use borrow.Author.Tests.{lt-ltb, le-ltb}
 use Rattle.ground.proofs.Pigeonhole.{pigeonhole}
-use Rattle.tables.specs.Rows.{noNode}
+use Rattle.tables.specs.Tables.{noNode}
 use Rattle.faults.specs.Walks.{above, climb, Back, Means}
-use Rattle.faults.specs.Marks.{Ends}
+use Rattle.faults.specs.Marks.{RunsOut}
 
 pub means-true : {P Q : Type 0} → P → Means true P Q
 means-true p = record { passed = λ e. p; failed = λ e. absurd (true≢false e) }
@@ -109,7 +109,7 @@ module _ (up : List ℕ) (n : ℕ) where
           (e + suc (b .0), omega arith, climb-add e (suc (b .0)) c ∙ ap (climb up n (suc (b .0))) q ∙ b .1)
 
       -- a node whose walk leaves the nodes does not come back
-      pub ends-no-back : Ends up n c → Back up n c → ⊥
+      pub ends-no-back : RunsOut up n c → Back up n c → ⊥
       ends-no-back (d, o) b = let (e, h, q) = far b d in omega (arith, climb-stays d e c h o)
 
   -- within the loop that walks up from c: it has come to x in k + 1 steps, and was not at c before

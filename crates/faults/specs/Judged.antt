@@ -11,11 +11,12 @@ use mathlib.Core.Path.{_≡_}
 use mathlib.Core.List.{List}
 use Prim.Native.Nat.{ℕ, _≤_}
 use lib.ListN.{length}
-use Rattle.ground.specs.Least.{least}
+use Rattle.ground.specs.Searches.{least}
 use Rattle.answers.specs.declared.Kind.{Kind}
 use Rattle.answers.specs.declared.Answer.{Answer}
-use Rattle.history.specs.History.{History, historyOf, Ruled}
-use Rattle.history.specs.Faults.{Overlap, places}
+use Rattle.history.specs.Faults.{History, historyOf, Overlap}
+use Rattle.history.specs.Ruled.{Ruled}
+use Rattle.history.specs.Places.{places}
 use Rattle.history.specs.Computed.{holds, say, shownSay}
 use Rattle.faults.specs.Slots.{Slots}
 

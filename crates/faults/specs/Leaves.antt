@@ -16,8 +16,9 @@ use lib.Dec.{ltb, eqb}
 use lib.ListN.{length, getD}
 use Rattle.ground.specs.Least.{Any, Least}
 use Rattle.tables.specs.declared.rows.Side.{Side}
-use Rattle.tables.specs.Instants.{during}
-use Rattle.tables.specs.Rows.{noNode, Ref, refAt, sideOf, HasRefs}
+use Rattle.tables.specs.Labels.{during}
+use Rattle.tables.specs.Tables.{noNode, RefRow, refAt}
+use Rattle.tables.specs.Rows.{sideOf, HasRefs}
 use Rattle.faults.specs.Slots.{Many}
 
 abbrev pub isMany : List ℕ → ℕ → Bool
@@ -40,7 +41,7 @@ pub record Parting (up : List ℕ) (n c best : ℕ) : Type 0 where
   pub least : Least (Parts up c) n best
 
 -- reference r is in force, and the node at one of its ends is absent
-abbrev pub isStray : List ℕ → ℕ → Side → Ref → Bool
+abbrev pub isStray : List ℕ → ℕ → Side → RefRow → Bool
 isStray up t side r = during (r .from) (r .to) t && isAbsent up (sideOf side r)
 
 -- a table has k reference rows, and the nodes at their ends are below n

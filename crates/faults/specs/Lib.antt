@@ -1,5 +1,5 @@
 pub mod Slots
-pub mod Stays
+pub mod Spans
 pub mod Walks
 pub mod Marks
 pub mod Leaves

@@ -1,10 +1,10 @@
 -- The marks that the walks up leave on the nodes, a walk's being its start plus 1. Only the walk's own functions speak
 -- of them.
---   Ends              the walk up from b leaves the nodes
+--   RunsOut              the walk up from b leaves the nodes
 --   NoBack, SomeBack  no node comes back to itself; one does
 --   Done              after the walks from the nodes below start: whatever is marked has a walk up that ends
---   Kept              no mark is lost
---   Walked            what a whole walk from start gives
+--   MarksStay              no mark is lost
+--   Marked            what a whole walk from start gives
 -- Assumes nothing.
 use mathlib.Core.Path.{_≡_}
 use mathlib.Core.List.{List}
@@ -14,8 +14,8 @@ use Rattle.ground.specs.Least.{Any, Before}
 use Rattle.faults.specs.Walks.{climb, Back}
 
 module _ (up : List ℕ) (n : ℕ) where
-  abbrev pub Ends : ℕ → Type 0
-  Ends b = (d : ℕ) × (n ≤ climb up n d b)
+  abbrev pub RunsOut : ℕ → Type 0
+  RunsOut b = (d : ℕ) × (n ≤ climb up n d b)
 
   abbrev pub NoBack : Type 0
   NoBack = Before (Back up n) n
@@ -24,12 +24,12 @@ module _ (up : List ℕ) (n : ℕ) where
   SomeBack = Any (Back up n) n
 
   abbrev pub Done : ℕ → List ℕ → Type 0
-  Done start mark = (k : ℕ) → k < n → (getD mark k 0 ≡ 0 → ⊥) → Ends k × (getD mark k 0 ≤ start)
+  Done start mark = (k : ℕ) → k < n → (getD mark k 0 ≡ 0 → ⊥) → RunsOut k × (getD mark k 0 ≤ start)
 
-  abbrev pub Kept : List ℕ → List ℕ → Type 0
-  Kept old mark = (k : ℕ) → k < n → (getD old k 0 ≡ 0 → ⊥) → getD mark k 0 ≡ 0 → ⊥
+  abbrev pub MarksStay : List ℕ → List ℕ → Type 0
+  MarksStay old mark = (k : ℕ) → k < n → (getD old k 0 ≡ 0 → ⊥) → getD mark k 0 ≡ 0 → ⊥
 
-  pub record Walked (start : ℕ) (old mark : List ℕ) : Type 0 where
+  pub record Marked (start : ℕ) (old mark : List ℕ) : Type 0 where
     pub done : Done (start + 1) mark
-    pub kept : Kept old mark
+    pub kept : MarksStay old mark
     pub here : getD mark start 0 ≡ 0 → ⊥

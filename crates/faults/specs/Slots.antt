@@ -4,7 +4,7 @@
 --   Slots      every slot of a list says it of the rows that lead into its node, with their parents
 --   Taking     row i can be taken into the slots of the rows before it
 --   Fit        a table has m containment rows, and their nodes are below n
---   Blank      slots that no row has changed, for the nodes of m rows
+--   BlankSlots      slots that no row has changed, for the nodes of m rows
 --   Fresh      slots for n nodes, and all of them noNode
 -- Assumes nothing.
 use mathlib.Core.Path.{_≡_}
@@ -12,9 +12,10 @@ use mathlib.Core.List.{List}
 use Prim.Native.Nat.{ℕ, _+_, _≤_, _<_}
 use lib.ListN.{length, getD}
 use Rattle.ground.specs.Least.{Before}
-use Rattle.tables.specs.Rows.{Edge, noNode, edgeAt, HasEdges}
-use Rattle.tables.specs.Sizes.{mostNodes}
-use Rattle.history.specs.Faults.{Leads, NodesBelow}
+use Rattle.tables.specs.Tables.{EdgeRow, noNode, edgeAt}
+use Rattle.tables.specs.Rows.{HasEdges}
+use Rattle.tables.specs.Rules.{mostNodes}
+use Rattle.history.specs.Places.{Leads, NodesBelow}
 
 -- in a slot, noNode says that there is none, and this that there are several
 abbrev pub Many : ℕ
@@ -26,7 +27,7 @@ pub data Slot (L : ℕ → Type 0) (value : ℕ → ℕ) (i v : ℕ) : Type 0 wh
   several : v ≡ Many → (j k : ℕ) → j < k → k < i → L j → L k → Slot L value i v
 
 -- the pass counts its rows in the bound i, which grows by one a turn while what is said of row j stays the same
-abbrev pub Slots : (ℕ → Edge) → ℕ → ℕ → List ℕ → Type 0
+abbrev pub Slots : (ℕ → EdgeRow) → ℕ → ℕ → List ℕ → Type 0
 Slots E t i up = (c : ℕ) → c < length up → Slot (Leads E t c) (λ j. E j .parent) i (getD up c 0)
 
 -- the table has the row, its child has a slot, and no parent before it is the number that stands for several rows
@@ -40,7 +41,7 @@ pub record Fit (es : List ℕ) (m n : ℕ) : Type 0 where
   pub rows : HasEdges es m
   pub nodes : NodesBelow m (edgeAt es) n
 
-pub record Blank (es : List ℕ) (t m : ℕ) (up : List ℕ) : Type 0 where
+pub record BlankSlots (es : List ℕ) (t m : ℕ) (up : List ℕ) : Type 0 where
   pub fit : Fit es m (length up)
   pub few : length up ≤ mostNodes
   pub slots : Slots (edgeAt es) t 0 up

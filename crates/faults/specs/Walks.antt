@@ -10,7 +10,7 @@ use mathlib.Core.List.{List}
 use Prim.Native.Nat.{ℕ, zero, suc}
 use lib.Dec.{ltb}
 use lib.ListN.{getD}
-use Rattle.tables.specs.Rows.{noNode}
+use Rattle.tables.specs.Tables.{noNode}
 
 module _ (up : List ℕ) (n : ℕ) where
   unfoldable pub above : ℕ → ℕ

@@ -3,8 +3,9 @@
 ghost use mathlib.Core.Path.{_≡_};
 ghost use Prim.Native.Nat.{_+_, _<_, _≤_};
 ghost use lib.ListN.{length};
-ghost use Rattle.ground.specs.Least.{Least, least};
-ghost use Rattle.tables.specs.Rows.{refAt};
+ghost use Rattle.ground.specs.Least.{Least};
+ghost use Rattle.ground.specs.Searches.{least};
+ghost use Rattle.tables.specs.Tables.{refAt};
 ghost use Rattle.faults.specs.Leaves.{isMany, isAbsent, isGap, Parts, Parting, isStray, Referring};
 use super::slots::MANY;
 use tables::rows::NO_NODE;

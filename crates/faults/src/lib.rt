@@ -2,6 +2,6 @@
 pub mod judge;
 pub mod leaves;
 pub mod slots;
-pub mod stays;
+pub mod spans;
 pub mod until;
 pub mod walk;

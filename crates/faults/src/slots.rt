@@ -1,7 +1,7 @@
 // One pass over the rows at an instant: each node's slot holds the parent of the row into it that is in force.
 ghost use Prim.Native.Nat.{_+_};
-ghost use Rattle.tables.specs.Rows.{edgeAt};
-ghost use Rattle.faults.specs.Slots.{Slots, Taking, Blank};
+ghost use Rattle.tables.specs.Tables.{edgeAt};
+ghost use Rattle.faults.specs.Slots.{Slots, Taking, BlankSlots};
 use tables::rows::NO_NODE;
 use tables::rows::edge_child;
 use tables::rows::edge_in_force;
@@ -27,7 +27,7 @@ fn take_row(edges: &[u32], i: usize, t: u32, up: &mut [u32])
 
 // All m rows, from slots that are all NO_NODE.
 pub fn take_rows(edges: &[u32], m: usize, t: u32, up: &mut [u32])
-    requires { ⌜ Blank (now edges) t m (now up) ⌝ }
+    requires { ⌜ BlankSlots (now edges) t m (now up) ⌝ }
     ensures { λ _. ⌜ Slots (edgeAt (now (edges .entry))) t m (now (up .exit)) ⌝ }
 {
     let mut i = 0;

@@ -1,7 +1,8 @@
 // How long nothing changes: the last instant before the next change.
-ghost use Rattle.tables.specs.Instants.{instantOf};
+ghost use Rattle.tables.specs.Labels.{instantOf};
+ghost use Rattle.tables.specs.Rows.{fromAt, toAt, HasRows, HasEdges, HasRefs};
+ghost use Rattle.tables.specs.Tables.{edgeAt, refAt};
 ghost use Prim.Native.Nat.{_<_};
-ghost use Rattle.tables.specs.Rows.{fromAt, toAt, edgeAt, refAt, HasRows, HasEdges, HasRefs};
 ghost use Rattle.history.specs.Until.{Starts, Ends, Still, Calm, LargestInstant, RowsUntil};
 use ground::smaller;
 use tables::label::Label;

@@ -3,9 +3,9 @@
 ghost use Prim.Native.Nat.{_<_, _≤_};
 ghost use lib.ListN.{length};
 ghost use Rattle.ground.specs.Least.{Least};
-ghost use Rattle.tables.specs.Sizes.{mostNodes};
+ghost use Rattle.tables.specs.Rules.{mostNodes};
 ghost use Rattle.faults.specs.Walks.{Back, Means};
-ghost use Rattle.faults.specs.Marks.{Done, Walked, NoBack, SomeBack};
+ghost use Rattle.faults.specs.Marks.{Done, Marked, NoBack, SomeBack};
 use tables::sizes::MOST_NODES;
 
 // Whether the walk up from c comes back to c.
@@ -48,7 +48,7 @@ fn find_back(up: &[u32], n: usize) -> usize
 fn walk(up: &[u32], n: usize, start: usize, mark: &mut [u32]) -> bool
     requires { ⌜ (n ≤ length (now up)) × (n ≤ length (now mark)) × (n ≤ mostNodes) × (start < n) ⌝ }
     requires { ⌜ Done (now up) n start (now mark) ⌝ }
-    ensures { λ r. ⌜ Means r (Walked (now (up .entry)) n start (now (mark .entry)) (now (mark .exit)))
+    ensures { λ r. ⌜ Means r (Marked (now (up .entry)) n start (now (mark .entry)) (now (mark .exit)))
         (SomeBack (now (up .entry)) n) ⌝ }
 {
     let stamp = start as u32 + 1;

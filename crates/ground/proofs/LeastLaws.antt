@@ -7,7 +7,8 @@ use Prim.Native.Nat.{ℕ, zero, suc, _+_, _≤_, _<_, min}
 use native.Mathlib.Decide.{ℕ-discrete, decLe, decLt}
 use native.Mathlib.Omega.{arith}
 use Rattle.ground.specs.Tests.{Tells}
-use Rattle.ground.specs.Least.{Any, Before, Least, Passes, any, least}
+use Rattle.ground.specs.Least.{Any, Before, Least}
+use Rattle.ground.specs.Searches.{Passes, any, least}
 use Rattle.ground.proofs.TestLaws.{tells-or}
 
 pub not-lt→le : {m n : ℕ} → (m < n → ⊥) → n ≤ m

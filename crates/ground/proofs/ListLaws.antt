@@ -9,21 +9,10 @@ use native.Mathlib.Nat.{add-zero}
 use native.Mathlib.Numerals.{add-one}
 use native.Mathlib.Omega.{arith}
 use lib.ListN.{length, getD, set, drop, length-set, length-append, length-drop, List·getD-eq-default}
-use lib.Seq.{
-  sets,
-  sets-eq,
-  getD-set-same,
-  getD-set-other,
-  set-comm,
-  getD-drop,
-  drop-cons,
-  drop-drop,
-  drop-append-seam,
-  drop-length,
-}
-use Rattle.ground.specs.Stands.{Stands}
+use lib.Seq.{sets, sets-eq, getD-set-same, getD-set-other, set-comm, getD-drop, drop-cons, drop-drop, drop-append-seam}
+use lib.Seq.{drop-length}
+use Rattle.ground.specs.Lists.{Stands, front}
 use Rattle.ground.specs.Stores.{Put}
-use Rattle.ground.specs.Lists.{front}
 use Rattle.ground.proofs.TestLaws.{by-lt}
 
 -- what holds of every place and number below i, and of i and the number stored there, holds below i + 1:

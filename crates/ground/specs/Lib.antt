@@ -1,6 +1,6 @@
 pub mod Tests
 pub mod Least
+pub mod Searches
 pub mod Sums
-pub mod Stands
 pub mod Stores
 pub mod Lists

@@ -1,11 +1,8 @@
--- Sums and counts over the numbers below a bound.
---   sum f n    f 0 + f 1 + .. + f (n - 1)
---   bit b      1 where the test passes, else 0
---   count p n  how many numbers below n pass the test
--- Assumes nothing.
+-- Sums and counts over the numbers below a bound. Assumes nothing.
 use mathlib.Core.Bool.{Bool, true, false}
 use Prim.Native.Nat.{ℕ, zero, suc, _+_}
 
+-- f 0 + f 1 + .. + f (n - 1)
 unfoldable pub sum : (ℕ → ℕ) → ℕ → ℕ
 sum f zero = 0
 sum f (suc n) = sum f n + f n
@@ -14,5 +11,6 @@ abbrev pub bit : Bool → ℕ
 bit true = 1
 bit false = 0
 
+-- how many numbers below n pass the test
 abbrev pub count : (ℕ → Bool) → ℕ → ℕ
 count p = sum (λ i. bit (p i))

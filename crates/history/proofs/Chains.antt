@@ -8,11 +8,12 @@ use native.Mathlib.Omega.{arith}
 use lib.ListN.{length, take, drop, length-append, length-take, length-drop}
 use Rattle.ground.proofs.LeastLaws.{not-le→lt, any-dec}
 use Rattle.ground.proofs.Pigeonhole.{pigeonhole}
-use Rattle.tables.specs.Instants.{During}
-use Rattle.tables.specs.Rows.{Edge}
-use Rattle.history.specs.Faults.{Into, Touched, Present, Chain, Cycle, NodesBelow}
+use Rattle.tables.specs.Tables.{During, EdgeRow}
+use Rattle.history.specs.Faults.{Into, Present, Chain, Cycle}
+use Rattle.history.specs.Sound.{Touched}
+use Rattle.history.specs.Places.{NodesBelow}
 
-module _ (m : ℕ) (E : ℕ → Edge) (t : ℕ) where
+module _ (m : ℕ) (E : ℕ → EdgeRow) (t : ℕ) where
   -- chains are joined at a node
   pub join : (a b c : ℕ) (is js : List ℕ) → Chain m E t b c is → Chain m E t a b js → Chain m E t a c (is ++ js)
   join a b c [] js p q = subst (λ (x : ℕ). Chain m E t a x js) p q

@@ -8,9 +8,8 @@ use native.Mathlib.Decide.{ℕ-discrete, decLt, decLe}
 use native.Mathlib.Omega.{arith}
 use Rattle.ground.specs.Least.{Before}
 use Rattle.ground.proofs.LeastLaws.{any-dec, Greatest, greatest-exists}
-use Rattle.tables.specs.Instants.{Now, During}
-use Rattle.history.specs.History.{History}
-use Rattle.history.specs.Faults.{Into, Chain, Here}
+use Rattle.tables.specs.Tables.{Now, During}
+use Rattle.history.specs.Faults.{History, Into, Chain, Here}
 use Rattle.history.specs.Changes.{Changes, Change, LastChange}
 
 -- a label stands at s as it stands at t

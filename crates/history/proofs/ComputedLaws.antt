@@ -8,48 +8,22 @@ use native.Mathlib.Omega.{arith}
 use lib.ListN.{length}
 use lib.Dec.{leb, eqb}
 use Rattle.ground.specs.Tests.{Tells}
-use Rattle.ground.specs.Least.{Any, any}
+use Rattle.ground.specs.Least.{Any}
+use Rattle.ground.specs.Searches.{any}
 use Rattle.ground.proofs.TestLaws.{tells-and, tells-or, tells-not, tells-le, tells-lt, tells-eq}
 use Rattle.ground.proofs.LeastLaws.{any-tells}
 use Rattle.tables.specs.declared.rows.Side.{Side}
-use Rattle.tables.specs.Instants.{During}
-use Rattle.tables.specs.Rows.{Edge, sideOf}
+use Rattle.tables.specs.Tables.{During, EdgeRow}
+use Rattle.tables.specs.Rows.{sideOf}
 use Rattle.tables.proofs.LabelLaws.{during-tells}
-use Rattle.history.specs.History.{History}
-use Rattle.history.specs.Faults.{
-  Leads,
-  Into,
-  Out,
-  Ended,
-  Coming,
-  NoneInto,
-  Present,
-  Chain,
-  Overlap,
-  Gap,
-  Outside,
-  Cycle,
-  NodesBelow,
-  Refers,
-  Astray,
-}
-use Rattle.history.specs.Computed.{
-  isInto,
-  isOut,
-  hasEnded,
-  isComing,
-  isPresent,
-  reaches,
-  overlaps,
-  hasGap,
-  isOutside,
-  cycles,
-  refers,
-  isAstray,
-}
+use Rattle.history.specs.Faults.{History, Into, Out, Ended, Coming, NoneInto, Present, Chain, Overlap, Gap}
+use Rattle.history.specs.Faults.{Outside, Cycle, Refers}
+use Rattle.history.specs.Places.{Leads, NodesBelow, Astray}
+use Rattle.history.specs.Computed.{isInto, isOut, hasEnded, isComing, isPresent, reaches, overlaps, hasGap}
+use Rattle.history.specs.Computed.{isOutside, cycles, isReferring, isAstray}
 use Rattle.history.proofs.Chains.{shorten}
 
-module _ (m : ℕ) (E : ℕ → Edge) (t : ℕ) where
+module _ (m : ℕ) (E : ℕ → EdgeRow) (t : ℕ) where
   pub leads-tells : (n i : ℕ) → Tells (isInto m E t n i) (Leads E t n i)
   leads-tells n i = tells-and _ _ (tells-eq (E i .child) n) (during-tells (E i .from) (E i .to) t)
 
@@ -180,7 +154,7 @@ module _ (m : ℕ) (E : ℕ → Edge) (t : ℕ) where
       short a (js, l, c) = (js, omega arith, c)
 
 module _ (H : History) (t : ℕ) where
-  refers-tells : (k : ℕ) → Tells (refers H t k) (Refers H t k)
+  refers-tells : (k : ℕ) → Tells (isReferring H t k) (Refers H t k)
   refers-tells k = tells-and _ _ (tells-lt k (H .refs)) (during-tells (H .ref k .from) (H .ref k .to) t)
 
   pub astray-tells : (side : Side) (k : ℕ) → Tells (isAstray H t side k) (Astray H t side k)

@@ -2,19 +2,8 @@
 use mathlib.Core.Path.{_≡_, refl, sym, ap, _∙_}
 use mathlib.Core.Logic.{inl, inr, ⊎-elim}
 use mathlib.Core.Bool.{Bool, true, false, cond, false≢true}
-use mathlib.Core.List.{
-  List,
-  [],
-  _∷_,
-  List·Memᴰ,
-  List·Memᴰ·head,
-  List·Memᴰ·tail,
-  List·Memᴰ·not-nil,
-  List·Memᴰ·cases-cons,
-  Memᴰ·cast,
-  Memᴰ·append-left,
-  Memᴰ·append-right,
-}
+use mathlib.Core.List.{List, [], _∷_, List·Memᴰ, List·Memᴰ·head, List·Memᴰ·tail, List·Memᴰ·not-nil}
+use mathlib.Core.List.{List·Memᴰ·cases-cons, Memᴰ·cast, Memᴰ·append-left, Memᴰ·append-right}
 use Prim.Native.Nat.{ℕ, zero, suc, _+_, _≤_, _<_, min}
 use native.Mathlib.Decide.{decLe}
 use native.Mathlib.Omega.{arith}
@@ -27,10 +16,10 @@ use Rattle.answers.specs.declared.Answer.{Answer}
 use Rattle.answers.specs.declared.Answer.the-variants.{Faulty}
 use Rattle.answers.specs.Numbers.{refuses}
 use Rattle.answers.proofs.AnswerLaws.{faulty-refuses}
-use Rattle.tables.specs.Instants.{Now}
-use Rattle.history.specs.History.{History, Ruled}
-use Rattle.history.specs.Faults.{Holds}
-use Rattle.history.specs.Verdict.{Faultless, Verdict, accepted, refused, Names, none, first}
+use Rattle.tables.specs.Tables.{Now}
+use Rattle.history.specs.Faults.{History, Holds, Faultless, Verdict, accepted, refused}
+use Rattle.history.specs.Ruled.{Ruled}
+use Rattle.history.specs.Places.{Names, none, first}
 use Rattle.history.specs.Changes.{Changes, Change}
 use Rattle.history.specs.Computed.{turns, instants, faulty, soonest, saidAt, verdict}
 use Rattle.history.proofs.LineLaws.{change-enough}

@@ -12,11 +12,11 @@ use Rattle.answers.specs.declared.Kind.the-variants.{Overlap, Gap, Outside, Cyc
 use Rattle.answers.specs.declared.Fault.{Fault}
 use Rattle.tables.specs.declared.rows.Side.{Side}
 use Rattle.tables.specs.declared.rows.Side.the-variants.{Attribute, Target}
-use Rattle.tables.specs.Instants.{Now}
+use Rattle.tables.specs.Tables.{Now}
 use Rattle.tables.specs.Rows.{sideOf}
-use Rattle.history.specs.History.{History, Ruled}
-use Rattle.history.specs.Faults.{Astray, HoldsAt, Holds, places}
-use Rattle.history.specs.Verdict.{Faultless, Earliest}
+use Rattle.history.specs.Faults.{History, HoldsAt, Holds, Faultless, Earliest}
+use Rattle.history.specs.Ruled.{Ruled}
+use Rattle.history.specs.Places.{Astray, places}
 use Rattle.history.specs.Changes.{Change, LastChange}
 use Rattle.history.specs.Computed.{holds}
 use Rattle.history.proofs.RuledLaws.{ruled-below}
@@ -45,14 +45,14 @@ module _ (H : History) where
   lawful Overlap =
       record {
         tells = λ r t. overlap-tells (H .edges) (H .edge) t;
-        below = λ r t n (i, j, h, a, b). omega (arith, r .edge-ruled i (a .row) .child, a .into);
+        below = λ r t n (i, j, h, a, b). omega (arith, r .edge-fits i (a .row) .child, a .into);
         back = λ t s l n (i, j, h, a, b). (i, j, h, into-s H t s l n i a, into-s H t s l n j b);
         change = λ t n now (i, j, h, a, b). (H .edge i .from, a .force .0, inl (i, a .row, inl refl));
       }
   lawful Gap =
       record {
         tells = λ r t. gap-tells (H .edges) (H .edge) t;
-        below = λ r t n (ne, away, (i, a), b). omega (arith, r .edge-ruled i (a .row) .child, a .into);
+        below = λ r t n (ne, away, (i, a), b). omega (arith, r .edge-fits i (a .row) .child, a .into);
         back = λ t s l n (ne, none, (i, a), (j, b)). (
           ne,
           λ k x. none k (into-t H t s l n k x),
@@ -65,7 +65,7 @@ module _ (H : History) where
   lawful Outside =
       record {
         tells = λ r t. outside-tells (H .edges) (H .edge) t;
-        below = λ r t n (ne, (i, a), away). omega (arith, r .edge-ruled i (a .row) .parent, a .out);
+        below = λ r t n (ne, (i, a), away). omega (arith, r .edge-fits i (a .row) .parent, a .out);
         back = λ t s l n (ne, (i, o), none). (
           ne,
           (i, record { row = o .row; out = o .out; force = l .edges i (o .row) .force (o .force) }),
@@ -76,7 +76,7 @@ module _ (H : History) where
   lawful Cycle =
       record {
         tells = λ r t. cycle-tells (H .edges) (H .edge) t (H .nodes) (ruled-below H r);
-        below = λ r t n (i, is, a). omega (arith, r .edge-ruled i (a .0 .row) .child, a .0 .into);
+        below = λ r t n (i, is, a). omega (arith, r .edge-fits i (a .0 .row) .child, a .0 .into);
         back = λ t s l n (i, is, q).
             (i, is, (into-s H t s l n i (q .0), chain-s H t s l n (H .edge i .parent) is (q .1)));
         change = λ t n now (i, is, q). (H .edge i .from, q .0 .force .0, inl (i, q .0 .row, inl refl));
@@ -123,10 +123,10 @@ module _ (H : History) where
 
   -- nothing changes before the start, and so there is no fault
   change-begun : Ruled H → (s : ℕ) → Change H s → H .start ≤ s
-  change-begun r s (inl (i, h, inl e)) = omega (arith, r .edge-ruled i h .begins)
-  change-begun r s (inl (i, h, inr (ne, e))) = omega (arith, r .edge-ruled i h .begins, r .edge-ruled i h .ends)
-  change-begun r s (inr (k, h, inl e)) = omega (arith, r .ref-ruled k h .begins)
-  change-begun r s (inr (k, h, inr (ne, e))) = omega (arith, r .ref-ruled k h .begins, r .ref-ruled k h .ends)
+  change-begun r s (inl (i, h, inl e)) = omega (arith, r .edge-fits i h .begins)
+  change-begun r s (inl (i, h, inr (ne, e))) = omega (arith, r .edge-fits i h .begins, r .edge-fits i h .ends)
+  change-begun r s (inr (k, h, inl e)) = omega (arith, r .ref-fits k h .begins)
+  change-begun r s (inr (k, h, inr (ne, e))) = omega (arith, r .ref-fits k h .begins, r .ref-fits k h .ends)
 
   pub start-faultless : Ruled H → H .start ≤ Now → (t : ℕ) → t < H .start → Faultless H t
   start-faultless r now t h f x =

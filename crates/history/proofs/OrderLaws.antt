@@ -7,7 +7,7 @@ use Rattle.ground.proofs.LeastLaws.{not-lt→le}
 use Rattle.answers.specs.declared.Fault.{Fault}
 use Rattle.answers.specs.Numbers.{codeOf}
 use Rattle.answers.proofs.AnswerLaws.{fault-unique}
-use Rattle.history.specs.Verdict.{First}
+use Rattle.history.specs.Faults.{First}
 
 module _ (F : Fault → Type 0) where
   first-code : (f g : Fault) → First F f → First F g → codeOf (f .kind) ≤ codeOf (g .kind)

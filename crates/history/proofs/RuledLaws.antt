@@ -5,24 +5,24 @@ use Prim.Native.Nat.{ℕ, _<_}
 use native.Mathlib.Omega.{arith}
 use Rattle.tables.specs.declared.rows.Side.{Side}
 use Rattle.tables.specs.declared.rows.Side.the-variants.{Attribute, Target}
-use Rattle.tables.specs.Rows.{Node, Edge, sideOf}
-use Rattle.tables.specs.Tables.{Tables, nodeIn, edgeIn}
-use Rattle.tables.specs.Rules.{NodeRule, EdgeRule}
-use Rattle.tables.specs.Says.{Obeys}
-use Rattle.history.specs.History.{History, held, EdgeRuled, Ruled, LentRows}
-use Rattle.history.specs.Faults.{NodesBelow}
+use Rattle.tables.specs.Tables.{NodeRow, EdgeRow, Tables, nodeIn, edgeIn}
+use Rattle.tables.specs.Rows.{sideOf}
+use Rattle.tables.specs.Rules.{NodeRule, EdgeRule, Obeys}
+use Rattle.history.specs.Faults.{History, held}
+use Rattle.history.specs.Ruled.{EdgeFits, Ruled, LentRows}
+use Rattle.history.specs.Places.{NodesBelow}
 
 pub ruled-below : (H : History) → Ruled H → NodesBelow (H .edges) (H .edge) (H .nodes)
-ruled-below H r i h = (r .edge-ruled i h .parent, r .edge-ruled i h .child)
+ruled-below H r i h = (r .edge-fits i h .parent, r .edge-fits i h .child)
 
 pub ruled-side : (H : History) → Ruled H → (side : Side) (k : ℕ) → k < H .refs → sideOf side (H .ref k) < H .nodes
-ruled-side H r Attribute k h = r .ref-ruled k h .attribute
-ruled-side H r Target k h = r .ref-ruled k h .target
+ruled-side H r Attribute k h = r .ref-fits k h .attribute
+ruled-side H r Target k h = r .ref-fits k h .target
 
 -- the child's kind is one that may be held, and the root's is not
-pub edge-ruled : (start n : ℕ) (node : ℕ → Node) (e : Edge) → NodeRule 0 (node 0) → EdgeRule start n node e
-    → EdgeRuled start n e
-edge-ruled start n node e root r =
+pub edge-fits : (start n : ℕ) (node : ℕ → NodeRow) (e : EdgeRow) → NodeRule 0 (node 0) → EdgeRule start n node e
+    → EdgeFits start n e
+edge-fits start n node e root r =
     record {
       parent = r .parent;
       child = r .child;
@@ -43,10 +43,10 @@ obeys-ruled L o =
       few-nodes = s .nodes .most;
       few-edges = s .edges .most;
       few-refs = s .refs .most;
-      edge-ruled =
-          λ i h. edge-ruled (L .start) (L .nodes .count) (nodeIn L) (edgeIn L i) (o .node-rule 0 root)
+      edge-fits =
+          λ i h. edge-fits (L .start) (L .nodes .count) (nodeIn L) (edgeIn L i) (o .node-rule 0 root)
           (o .edge-rule i h);
-      ref-ruled = λ k h.
+      ref-fits = λ k h.
           let r = o .ref-rule k h in
           record { attribute = r .attribute; target = r .target; begins = r .label .begins; ends = r .label .ends };
     }

@@ -7,7 +7,8 @@ use Prim.Native.Nat.{ℕ, _≤_, _<_}
 use native.Mathlib.Omega.{arith}
 use lib.Dec.{eqb}
 use borrow.Author.Tests.{lt-ltb, le-ltb, not-true, eqb-false, ne-eqb}
-use Rattle.ground.specs.Least.{Least, least}
+use Rattle.ground.specs.Least.{Least}
+use Rattle.ground.specs.Searches.{least}
 use Rattle.ground.proofs.TestLaws.{by-lt}
 use Rattle.ground.proofs.LeastLaws.{least-tells, least-none}
 use Rattle.answers.specs.declared.Kind.{Kind}
@@ -15,25 +16,14 @@ use Rattle.answers.specs.declared.Kind.the-variants.{Gap}
 use Rattle.answers.specs.declared.Fault.{Fault}
 use Rattle.answers.specs.declared.Answer.{Answer}
 use Rattle.answers.specs.declared.Answer.the-variants.{Faulty}
-use Rattle.answers.specs.Numbers.{codeOf, kinds, shownKinds, fault, refuses}
-use Rattle.answers.specs.Refusals.{passed}
-use Rattle.answers.proofs.KindLaws.{
-  code-unique,
-  every-kind,
-  isIn,
-  listed,
-  in-here,
-  in-more,
-  in-cases,
-  every-in,
-  rises,
-  rises-first,
-  rises-rest,
-}
+use Rattle.answers.specs.Numbers.{codeOf, refuses, passed}
+use Rattle.answers.specs.Refusals.{kinds, shownKinds, fault}
+use Rattle.answers.proofs.KindLaws.{code-unique, every-kind, isIn, listed, in-here, in-more, in-cases, every-in, rises}
+use Rattle.answers.proofs.KindLaws.{rises-first, rises-rest}
 use Rattle.answers.proofs.AnswerLaws.{faulty-refuses, first-refuses, first-passes}
-use Rattle.history.specs.History.{History, Ruled}
-use Rattle.history.specs.Faults.{HoldsAt, Holds, places}
-use Rattle.history.specs.Verdict.{Ahead, Shown, Names, none, first}
+use Rattle.history.specs.Faults.{History, HoldsAt, Holds, Ahead, Shown}
+use Rattle.history.specs.Ruled.{Ruled}
+use Rattle.history.specs.Places.{places, Names, none, first}
 use Rattle.history.specs.Computed.{holds, line, say, faultsSay, shownSay}
 use Rattle.history.proofs.LineLaws.{lawful}
 

@@ -5,11 +5,10 @@ use Prim.Native.Nat.{ℕ, _≤_}
 use native.Mathlib.Decide.{ℕ-discrete, decLe}
 use Rattle.answers.specs.declared.Kind.{Kind}
 use Rattle.answers.specs.declared.Kind.the-variants as kind
-use Rattle.answers.specs.Numbers.{fault}
-use Rattle.history.specs.History.{History, Ruled}
-use Rattle.history.specs.Faults.{Into, Touched, OneChain, Gap, Here, HoldsAt}
-use Rattle.history.specs.Sound.{Missing, Sound}
-use Rattle.history.specs.Verdict.{Faultless}
+use Rattle.answers.specs.Refusals.{fault}
+use Rattle.history.specs.Faults.{History, Into, Gap, Here, HoldsAt, Faultless}
+use Rattle.history.specs.Ruled.{Ruled}
+use Rattle.history.specs.Sound.{Touched, OneChain, Missing, Sound}
 use Rattle.history.proofs.Chains.{into-dec}
 use Rattle.history.proofs.Tree.{Tree, tree}
 use Rattle.history.proofs.RuledLaws.{ruled-below}
@@ -40,7 +39,7 @@ module _ (H : History) (t : ℕ) where
   missing-gap r n (away, (i, a), b) = (ne, λ j p. away (inr (ne, (j, p))), (i, a), b)
     where
       ne : n ≢ 0
-      ne e = r .edge-ruled i (a .row) .not-root (a .into ∙ e)
+      ne e = r .edge-fits i (a .row) .not-root (a .into ∙ e)
 
   module _ (r : Ruled H) where
     tree-tells : Tree (H .edges) (H .edge) t ↔ ((n : ℕ) → Touched (H .edges) (H .edge) t n

@@ -8,17 +8,19 @@ use Prim.Native.Nat.{ℕ, zero, suc, _<_}
 use native.Mathlib.Decide.{ℕ-discrete, decLt}
 use native.Mathlib.Omega.{arith}
 use lib.ListN.{length, length-append}
-use Rattle.tables.specs.Rows.{Edge}
-use Rattle.history.specs.Faults.{Into, NoneInto, Touched, Chain, Overlap, Outside, Cycle, NodesBelow, OneChain}
+use Rattle.tables.specs.Tables.{EdgeRow}
+use Rattle.history.specs.Faults.{Into, NoneInto, Chain, Overlap, Outside, Cycle}
+use Rattle.history.specs.Sound.{Touched, OneChain}
+use Rattle.history.specs.Places.{NodesBelow}
 use Rattle.history.proofs.Chains.{join, to-node, into-node, parent-touched, into-dec, long-cycle}
 
 -- none of OVERLAP, OUTSIDE and CYCLE
-pub record Tree (m : ℕ) (E : ℕ → Edge) (t : ℕ) : Type 0 where
+pub record Tree (m : ℕ) (E : ℕ → EdgeRow) (t : ℕ) : Type 0 where
   pub no-overlap : (n : ℕ) → Overlap m E t n → ⊥
   pub no-outside : (n : ℕ) → Outside m E t n → ⊥
   pub no-cycle : (n : ℕ) → Cycle m E t n → ⊥
 
-module _ (m : ℕ) (E : ℕ → Edge) (t : ℕ) where
+module _ (m : ℕ) (E : ℕ → EdgeRow) (t : ℕ) where
   -- where no two rows in force lead into one node, the way up is fixed
   module _ (over : (n : ℕ) → Overlap m E t n → ⊥) where
     pub same-row : (n i j : ℕ) → Into m E t n i → Into m E t n j → i ≡ j
@@ -144,6 +146,6 @@ module _ (m : ℕ) (E : ℕ → Edge) (t : ℕ) where
     pub reached-tree : Tree m E t
     reached-tree = record { no-overlap = overlap-free; no-outside = outside-free; no-cycle = cycle-free }
 
-pub tree : (m : ℕ) (E : ℕ → Edge) (t N : ℕ) → NodesBelow m E N
+pub tree : (m : ℕ) (E : ℕ → EdgeRow) (t N : ℕ) → NodesBelow m E N
     → Tree m E t ↔ ((n : ℕ) → Touched m E t n → OneChain m E t 0 n)
 tree m E t N b = (tree-reached m E t N b, reached-tree m E t)

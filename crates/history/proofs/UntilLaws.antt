@@ -8,9 +8,10 @@ use native.Mathlib.Omega.{arith}
 use Rattle.ground.specs.Least.{Any}
 use Rattle.ground.proofs.LeastLaws.{not-lt→le, below-suc, any-dec}
 use Rattle.tables.specs.declared.label.Label.{Label}
-use Rattle.tables.specs.Instants.{Now, instantOf, labelOf}
+use Rattle.tables.specs.Tables.{Now}
+use Rattle.tables.specs.Labels.{instantOf, labelOf}
 use Rattle.tables.proofs.LabelLaws.{instant-end}
-use Rattle.history.specs.History.{History}
+use Rattle.history.specs.Faults.{History}
 use Rattle.history.specs.Changes.{Changes, Change}
 use Rattle.history.specs.Until.{Starts, Ends, Still, Calm, Stops, LargestInstant, Until}
 

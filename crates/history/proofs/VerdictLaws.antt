@@ -7,12 +7,12 @@ use Rattle.ground.proofs.LeastLaws.{not-lt→le}
 use Rattle.answers.specs.declared.Fault.{Fault}
 use Rattle.answers.specs.declared.Answer.{Answer}
 use Rattle.answers.specs.declared.Answer.the-variants.{Faulty}
-use Rattle.answers.specs.Refusals.{passed}
-use Rattle.tables.specs.Instants.{Now}
-use Rattle.history.specs.History.{History, Ruled}
-use Rattle.history.specs.Faults.{Holds}
+use Rattle.answers.specs.Numbers.{passed}
+use Rattle.tables.specs.Tables.{Now}
+use Rattle.history.specs.Faults.{History, Holds, First, Faultless, Earliest, Verdict, accepted, refused}
+use Rattle.history.specs.Ruled.{Ruled}
 use Rattle.history.specs.Sound.{Sound}
-use Rattle.history.specs.Verdict.{First, Faultless, Earliest, Verdict, accepted, refused, Names, none, first}
+use Rattle.history.specs.Places.{Names, none, first}
 use Rattle.history.proofs.OrderLaws.{first-unique}
 use Rattle.history.proofs.SoundLaws.{sound}
 

@@ -7,16 +7,15 @@ use mathlib.Core.Path.{_≡_}
 use mathlib.Core.Logic.{_≢_, _⊎_}
 use Prim.Native.Nat.{ℕ, _+_, _≤_, _<_}
 use Rattle.ground.specs.Least.{Any}
-use Rattle.tables.specs.Instants.{Now}
-use Rattle.tables.specs.Rows.{Edge, Ref}
-use Rattle.history.specs.History.{History}
+use Rattle.tables.specs.Tables.{Now, EdgeRow, RefRow}
+use Rattle.history.specs.Faults.{History}
 
 -- it starts there, or it is not current and ended just before
 abbrev pub Changes : ℕ → ℕ → ℕ → Type 0
 Changes from to c = (c ≡ from) ⊎ ((to ≢ Now) × (c ≡ to + 1))
 
 -- of the first m containment rows and the first k reference rows
-abbrev pub RowsChange : ℕ → (ℕ → Edge) → ℕ → (ℕ → Ref) → ℕ → Type 0
+abbrev pub RowsChange : ℕ → (ℕ → EdgeRow) → ℕ → (ℕ → RefRow) → ℕ → Type 0
 RowsChange m E k R c =
     Any (λ i. Changes (E i .from) (E i .to) c) m ⊎ Any (λ j. Changes (R j .from) (R j .to) c) k
 

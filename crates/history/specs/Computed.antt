@@ -5,7 +5,7 @@
 --   isPresent, isHere    n is present; in a history
 --   reaches              a chain of at most k rows leads from one node to another
 --   overlaps, hasGap, isOutside, cycles   the lines of the table that are of nodes
---   refers               reference row k is in force
+--   isReferring               reference row k is in force
 --   isAstray             reference row k is in force, and the node at one of its ends is not present
 --   holds                the table: a fault of a kind holds at t, at a place
 --   line                 a line of the table as an answer, with its smallest place; say: line after line
@@ -21,23 +21,24 @@ use mathlib.Core.Bool.{Bool, not, cond, _&&_, _||_}
 use mathlib.Core.List.{List, [], _∷_, _++_}
 use Prim.Native.Nat.{ℕ, zero, suc, _+_, min}
 use lib.Dec.{leb, ltb, eqb}
-use Rattle.ground.specs.Least.{any}
+use Rattle.ground.specs.Searches.{any}
 use Rattle.answers.specs.declared.Kind.{Kind}
 use Rattle.answers.specs.declared.Kind.the-variants.{Overlap, Gap, Outside, Cycle, Late, Dangling}
 use Rattle.answers.specs.declared.Answer.{Answer}
 use Rattle.answers.specs.declared.Answer.the-variants.{Faulty}
-use Rattle.answers.specs.Numbers.{kinds, shownKinds, fault, refuses}
-use Rattle.answers.specs.Refusals.{passed, _⨾_}
+use Rattle.answers.specs.Refusals.{kinds, shownKinds, fault, _⨾_}
+use Rattle.answers.specs.Numbers.{refuses, passed}
 use Rattle.tables.specs.declared.rows.Side.{Side}
 use Rattle.tables.specs.declared.rows.Side.the-variants.{Attribute, Target}
-use Rattle.tables.specs.Instants.{Now, during}
-use Rattle.tables.specs.Rows.{Edge, sideOf}
+use Rattle.tables.specs.Tables.{Now, EdgeRow}
+use Rattle.tables.specs.Labels.{during}
+use Rattle.tables.specs.Rows.{sideOf}
 use Rattle.tables.specs.Says.{smallest}
-use Rattle.history.specs.History.{History}
-use Rattle.history.specs.Faults.{places}
+use Rattle.history.specs.Faults.{History}
+use Rattle.history.specs.Places.{places}
 
 -- what a `let` binds waits: a search stops at the first that passes
-module _ (m : ℕ) (E : ℕ → Edge) (t : ℕ) where
+module _ (m : ℕ) (E : ℕ → EdgeRow) (t : ℕ) where
   abbrev pub isInto : ℕ → ℕ → Bool
   isInto n i = eqb (E i .child) n && during (E i .from) (E i .to) t
 
@@ -74,14 +75,14 @@ module _ (m : ℕ) (E : ℕ → Edge) (t : ℕ) where
   cycles nodes n = any (λ i. let back = reaches nodes n (E i .parent) in isInto n i && back) m
 
 module _ (H : History) (t : ℕ) where
-  abbrev pub refers : ℕ → Bool
-  refers k = ltb k (H .refs) && during (H .ref k .from) (H .ref k .to) t
+  abbrev pub isReferring : ℕ → Bool
+  isReferring k = ltb k (H .refs) && during (H .ref k .from) (H .ref k .to) t
 
   abbrev pub isHere : ℕ → Bool
   isHere = isPresent (H .edges) (H .edge) t (H .start)
 
   abbrev pub isAstray : Side → ℕ → Bool
-  isAstray side k = refers k && not (isHere (sideOf side (H .ref k)))
+  isAstray side k = isReferring k && not (isHere (sideOf side (H .ref k)))
 
   abbrev pub holds : Kind → ℕ → Bool
   holds Overlap = overlaps (H .edges) (H .edge) t

@@ -1,20 +1,4 @@
--- Presence, chains, and the faults at an instant, line for line.
---   Leads             row i leads into n and is in force; Into, Out: it is one of m rows, and leads into n, out of n
---   NoneInto          no row into n is in force
---   Ended, Coming     row i leads into n, and ended before t, starts after t
---   Touched           a row in force touches n
---   Present, Here     n is present; in a history
---   Chain             rows, all in force, that lead from one node to another
---   OneChain          exactly one chain leads from one node to another
---   NodesBelow        all node numbers of the rows are below n
---   Refers            reference row k is in force
---   Overlap, Gap, Outside, Cycle, Late, Dangling   the lines of the table
---   Astray            a reference is in force, and the node at one of its ends is not present
---   HoldsAt, Holds    the table: a fault of a kind holds at t, at a place; a fault does
---   places            how many places a fault of a kind can have
--- [01:Faults at an instant] "These condense conditions 1, 2, 3, half of 5, and 6 of Definition 3." [003:Def 3] OUTSIDE
--- breaks condition 1, OVERLAP and GAP condition 2, CYCLE condition 3, LATE half of condition 5, DANGLING condition 6.
--- Assumes nothing.
+-- A history, presence and chains, the faults at an instant, line for line, and the verdict of check. Assumes nothing.
 use mathlib.Core.Path.{_≡_}
 use mathlib.Core.Logic.{_≢_, _⊎_}
 use mathlib.Core.List.{List, [], _∷_}
@@ -22,33 +6,49 @@ use Prim.Native.Nat.{ℕ, _≤_, _<_}
 use Rattle.answers.specs.declared.Fault.{Fault}
 use Rattle.answers.specs.declared.Kind.{Kind}
 use Rattle.answers.specs.declared.Kind.the-variants as kind
-use Rattle.tables.specs.declared.rows.Side.{Side}
-use Rattle.tables.specs.declared.rows.Side.the-variants.{Attribute, Target}
-use Rattle.tables.specs.Instants.{During}
-use Rattle.tables.specs.Rows.{Edge, sideOf}
-use Rattle.history.specs.History.{History}
+use Rattle.answers.specs.declared.Answer.{Answer}
+use Rattle.answers.specs.declared.Answer.the-variants.{Faulty}
+use Rattle.answers.specs.Numbers.{codeOf, passed}
+use Rattle.tables.specs.Tables.{Now, During, EdgeRow, RefRow, edgeAt, refAt, Tables}
 
--- of however many rows
-abbrev pub Leads : (ℕ → Edge) → ℕ → ℕ → ℕ → Type 0
-Leads E t n i = (E i .child ≡ n) × During (E i .from) (E i .to) t
+-- A history: the start, how many nodes, containment rows and reference rows it has, and the rows
+pub record History : Type 0 where
+  pub start : ℕ
+  pub nodes : ℕ
+  pub edges : ℕ
+  pub edge : ℕ → EdgeRow
+  pub refs : ℕ
+  pub ref : ℕ → RefRow
+
+abbrev pub historyOf : ℕ → ℕ → List ℕ → ℕ → List ℕ → ℕ → History
+historyOf start n es m rs k = record { start = start; nodes = n; edges = m; edge = edgeAt es; refs = k; ref = refAt rs }
+
+-- the history that lent tables hold
+abbrev pub held : Tables → History
+held L =
+    historyOf (L .start) (L .nodes .count) (L .edges .numbers) (L .edges .count) (L .refs .numbers) (L .refs .count)
 
 -- Of the m containment rows E, at the instant t:
-module _ (m : ℕ) (E : ℕ → Edge) (t : ℕ) where
+module _ (m : ℕ) (E : ℕ → EdgeRow) (t : ℕ) where
+  -- row i leads into n, and is in force
   pub record Into (n i : ℕ) : Type 0 where
     pub row : i < m
     pub into : E i .child ≡ n
     pub force : During (E i .from) (E i .to) t
 
+  -- row i leads out of n, and is in force
   pub record Out (n i : ℕ) : Type 0 where
     pub row : i < m
     pub out : E i .parent ≡ n
     pub force : During (E i .from) (E i .to) t
 
+  -- row i leads into n, and ended before t
   pub record Ended (n i : ℕ) : Type 0 where
     pub row : i < m
     pub into : E i .child ≡ n
     pub past : E i .to < t
 
+  -- row i leads into n, and starts after t
   pub record Coming (n i : ℕ) : Type 0 where
     pub row : i < m
     pub into : E i .child ≡ n
@@ -56,9 +56,6 @@ module _ (m : ℕ) (E : ℕ → Edge) (t : ℕ) where
 
   abbrev pub NoneInto : ℕ → Type 0
   NoneInto n = (i : ℕ) → Into n i → ⊥
-
-  abbrev pub Touched : ℕ → Type 0
-  Touched n = ((i : ℕ) × Into n i) ⊎ ((i : ℕ) × Out n i)
 
   -- [01:Faults at an instant] "The root is present from the start on. Another node is present at t when some
   -- containment row into it is in force."
@@ -71,9 +68,6 @@ module _ (m : ℕ) (E : ℕ → Edge) (t : ℕ) where
   abbrev pub Chain : ℕ → ℕ → List ℕ → Type 0
   Chain a b [] = a ≡ b
   Chain a b (i ∷ is) = Into b i × Chain a (E i .parent) is
-
-  abbrev pub OneChain : ℕ → ℕ → Type 0
-  OneChain a b = (is : List ℕ) × Chain a b is × ((js : List ℕ) → Chain a b js → js ≡ is)
 
   -- [01:Faults at an instant] 11 OVERLAP "two or more containment rows into node n are in force"
   abbrev pub Overlap : ℕ → Type 0
@@ -91,10 +85,6 @@ module _ (m : ℕ) (E : ℕ → Edge) (t : ℕ) where
   abbrev pub Cycle : ℕ → Type 0
   Cycle n = (i : ℕ) × (is : List ℕ) × Chain n n (i ∷ is)
 
--- all node numbers of the rows are below n
-abbrev pub NodesBelow : ℕ → (ℕ → Edge) → ℕ → Type 0
-NodesBelow m E n = (i : ℕ) → i < m → (E i .parent < n) × (E i .child < n)
-
 module _ (H : History) (t : ℕ) where
   -- reference row k is in force
   abbrev pub Refers : ℕ → Type 0
@@ -103,18 +93,15 @@ module _ (H : History) (t : ℕ) where
   abbrev pub Here : ℕ → Type 0
   Here = Present (H .edges) (H .edge) t (H .start)
 
-  -- reference row k is in force, and the node at one of its ends is not present
-  abbrev pub Astray : Side → ℕ → Type 0
-  Astray side k = Refers k × (Here (sideOf side (H .ref k)) → ⊥)
-
   -- 15 LATE "a reference is in force and its attribute is not present"
   abbrev pub Late : ℕ → Type 0
-  Late = Astray Attribute
+  Late k = Refers k × (Here (H .ref k .attribute) → ⊥)
 
   -- 16 DANGLING "a reference is in force and its target is not present"
   abbrev pub Dangling : ℕ → Type 0
-  Dangling = Astray Target
+  Dangling k = Refers k × (Here (H .ref k .target) → ⊥)
 
+  -- a fault of a kind holds at t, at a place
   abbrev pub HoldsAt : Kind → ℕ → Type 0
   HoldsAt kind.Overlap = Overlap (H .edges) (H .edge) t
   HoldsAt kind.Gap = Gap (H .edges) (H .edge) t
@@ -126,11 +113,31 @@ module _ (H : History) (t : ℕ) where
   abbrev pub Holds : Fault → Type 0
   Holds f = HoldsAt (f .kind) (f .place)
 
--- the table's last column: how many nodes, or reference rows, can be the place of a fault of a kind
-abbrev pub places : History → Kind → ℕ
-places H kind.Overlap = H .nodes
-places H kind.Gap = H .nodes
-places H kind.Outside = H .nodes
-places H kind.Cycle = H .nodes
-places H kind.Late = H .refs
-places H kind.Dangling = H .refs
+-- one fault stands before another: a smaller code, or the same code and a smaller place
+abbrev pub Ahead : Fault → Fault → Type 0
+Ahead g f =
+    (codeOf (g .kind) < codeOf (f .kind)) ⊎ ((codeOf (g .kind) ≡ codeOf (f .kind)) × (g .place < f .place))
+
+-- [01:Faults at an instant] of the faults with a property, that of "the smallest code, and there the smallest place"
+pub record First (F : Fault → Type 0) (f : Fault) : Type 0 where
+  pub holds : F f
+  pub first : (g : Fault) → F g → Ahead g f → ⊥
+
+abbrev pub Faultless : History → ℕ → Type 0
+Faultless H t = (f : Fault) → Holds H t f → ⊥
+
+-- [01:Faults at an instant] "Check answers with the earliest instant that has a fault, there the smallest code, and
+-- there the smallest place."
+pub record Earliest (H : History) (t : ℕ) (f : Fault) : Type 0 where
+  pub instant : t ≤ Now
+  pub fault : First (Holds H t) f
+  pub earliest : (s : ℕ) → s < t → Faultless H s
+
+-- [01:Faults at an instant] "An accepted history answers code 0, instant 0, place 0."
+pub data Verdict (H : History) : Answer → Type 0 where
+  accepted : ((t : ℕ) → t ≤ Now → Faultless H t) → Verdict H passed
+  refused : {t : ℕ} {f : Fault} → Earliest H t f → Verdict H (Faulty t f)
+
+-- [01:What the calls answer] Snapshot: "the fault at t of smallest code and place with GAP set aside"
+abbrev pub Shown : History → ℕ → Fault → Type 0
+Shown H t f = Holds H t f × (codeOf (f .kind) ≢ codeOf kind.Gap)

@@ -1,7 +1,7 @@
-pub mod History
 pub mod Faults
 pub mod Sound
-pub mod Verdict
+pub mod Ruled
+pub mod Places
 pub mod Changes
 pub mod Until
 pub mod Computed

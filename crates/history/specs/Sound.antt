@@ -1,18 +1,29 @@
--- Demand 3's sentence, from chains and presence and not from the table of faults.
---   Missing   a node is missing between two stays
---   Sound     the sentence holds at t
--- Assumes nothing.
+-- Demand 3's sentence, from chains and presence and not from the table of faults. Assumes nothing.
+use mathlib.Core.Path.{_≡_}
+use mathlib.Core.Logic.{_⊎_}
+use mathlib.Core.List.{List}
 use Prim.Native.Nat.{ℕ}
-use Rattle.history.specs.History.{History}
-use Rattle.history.specs.Faults.{Ended, Coming, Touched, OneChain, Refers, Here}
+use Rattle.tables.specs.Tables.{EdgeRow}
+use Rattle.history.specs.Faults.{History, Into, Out, Ended, Coming, Chain, Refers, Here}
+
+module _ (m : ℕ) (E : ℕ → EdgeRow) (t : ℕ) where
+  -- a row in force touches n
+  abbrev pub Touched : ℕ → Type 0
+  Touched n = ((i : ℕ) × Into m E t n i) ⊎ ((i : ℕ) × Out m E t n i)
+
+  -- one chain leads from a to b, and no other
+  abbrev pub OneChain : ℕ → ℕ → Type 0
+  OneChain a b = (is : List ℕ) × Chain m E t a b is × ((js : List ℕ) → Chain m E t a b js → js ≡ is)
 
 module _ (H : History) (t : ℕ) where
+  -- n is missing between two of its stays
   abbrev pub Missing : ℕ → Type 0
   Missing n =
       (Here H t n → ⊥) × ((i : ℕ) × Ended (H .edges) (H .edge) t n i) × ((j : ℕ) × Coming (H .edges) (H .edge) t n j)
 
-  -- [demand 3] "at every instant each touched node is reached from the root by one chain and no other, no node is
-  -- missing between two stays, and each reference in force joins two present ends"
+  -- [demand 3] "each node touched by a containment row then in force is reached from the root by one chain of such rows
+  -- and no other, no node is missing between two of its stays, and each reference in force joins an attribute and a
+  -- target that are both present"
   pub record Sound : Type 0 where
     pub reached : (n : ℕ) → Touched (H .edges) (H .edge) t n → OneChain (H .edges) (H .edge) t 0 n
     pub unbroken : (n : ℕ) → Missing n → ⊥

@@ -8,9 +8,8 @@
 use mathlib.Core.Path.{_≡_}
 use mathlib.Core.Logic.{_⊎_}
 use Prim.Native.Nat.{ℕ, _+_, _≤_, _<_}
-use Rattle.tables.specs.Instants.{Now}
-use Rattle.tables.specs.Rows.{Edge, Ref}
-use Rattle.history.specs.History.{History}
+use Rattle.tables.specs.Tables.{Now, EdgeRow, RefRow}
+use Rattle.history.specs.Faults.{History}
 
 module _ (t : ℕ) where
   abbrev pub Starts : ℕ → ℕ → Type 0
@@ -27,7 +26,7 @@ module _ (t : ℕ) where
   Calm n from to u = (i : ℕ) → i < n → Still (from i) (to i) u
 
 -- of the first m containment rows and the first k reference rows
-abbrev pub RowsCalm : ℕ → (ℕ → Edge) → ℕ → (ℕ → Ref) → ℕ → ℕ → Type 0
+abbrev pub RowsCalm : ℕ → (ℕ → EdgeRow) → ℕ → (ℕ → RefRow) → ℕ → ℕ → Type 0
 RowsCalm m E k R t u = Calm t m (λ i. E i .from) (λ i. E i .to) u × Calm t k (λ j. R j .from) (λ j. R j .to) u
 
 -- where a stretch without change stops: a label starts at u+1 or ends at u
@@ -41,7 +40,7 @@ pub record LargestInstant (P : ℕ → Type 0) (u : ℕ) : Type 0 where
 
 -- [02:Ask 11] "until: the largest instant u such that no containment or reference row starts in t+1 to u, and none ends
 -- in t to u−1"
-abbrev pub RowsUntil : ℕ → (ℕ → Edge) → ℕ → (ℕ → Ref) → ℕ → ℕ → Type 0
+abbrev pub RowsUntil : ℕ → (ℕ → EdgeRow) → ℕ → (ℕ → RefRow) → ℕ → ℕ → Type 0
 RowsUntil m E k R t = LargestInstant (RowsCalm m E k R t)
 
 abbrev pub Until : History → ℕ → ℕ → Type 0

@@ -15,45 +15,15 @@ use Rattle.ground.proofs.ListLaws.{sets-append, stands-within}
 use Rattle.decimals.specs.declared.Num.the-variants.{Is, Missing}
 use Rattle.lines.specs.declared.form.Form.{Form}
 use Rattle.lines.specs.Lines.{widthOf, isEnd, mark, rowOf}
-use Rattle.lines.specs.Reads.{
-  Got,
-  got,
-  begunAt,
-  hasAt,
-  numberAt,
-  numbersAt,
-  onLine,
-  lineAt,
-  linesAt,
-  isGot,
-  placeOf,
-  numbersOf,
-}
+use Rattle.lines.specs.Reads.{Got, got, begunAt, hasAt, numberAt, numbersAt, onLine, lineAt, linesAt, isGot}
+use Rattle.lines.specs.Reads.{placeOf, numbersOf}
 use Rattle.lines.specs.Fills.{Fillable, FillableLines, Filled}
-use Rattle.lines.proofs.GotLaws.{
-  got-not-wrong,
-  got-place,
-  got-is,
-  got-of,
-  is-got,
-  got-then,
-  got-line,
-  got-onto,
-  got-cond,
-  onto-is,
-  onto-place,
-  onto-numbers,
-}
+use Rattle.lines.proofs.GotLaws.{got-not-wrong, got-place, got-is, got-of, is-got, got-then, got-line, got-onto}
+use Rattle.lines.proofs.GotLaws.{got-cond, onto-is, onto-place, onto-numbers}
 use Rattle.lines.proofs.NumberLaws.{has-is}
 use Rattle.lines.proofs.LineLaws.{numbers-is}
-use Rattle.lines.proofs.StepLaws.{
-  numbers-missing,
-  numbers-mark,
-  numbers-step,
-  numbers-none,
-  mark-within,
-  lines-none,
-}
+use Rattle.lines.proofs.StepLaws.{numbers-missing, numbers-mark, numbers-step, numbers-none, mark-within}
+use Rattle.lines.proofs.StepLaws.{lines-none}
 
 -- ---- the numbers of a line: `left` are to be read from place i on, the next for index j of out: that makes of out
 -- what was to be made of out₀

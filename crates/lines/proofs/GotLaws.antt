@@ -8,21 +8,8 @@ use native.Mathlib.Omega.{arith}
 use Rattle.decimals.specs.declared.Num.{Num}
 use Rattle.decimals.specs.declared.Num.the-variants.{Is, Missing}
 use Rattle.lines.specs.declared.read.Ended.the-variants.{At, Wrong}
-use Rattle.lines.specs.Reads.{
-  Got,
-  got,
-  wrong,
-  andThen,
-  onLine,
-  refusedAt,
-  onto,
-  thenNumber,
-  isGot,
-  gotOf,
-  numbersOf,
-  endOf,
-  placeOf,
-}
+use Rattle.lines.specs.Reads.{Got, got, wrong, andThen, onLine, refusedAt, onto, thenNumber, isGot, gotOf}
+use Rattle.lines.specs.Reads.{numbersOf, endOf, placeOf}
 
 module _ {A : Type 0} where
   -- cases on what was read, with the equation

@@ -8,39 +8,14 @@ use lib.Dec.{eqb}
 use lib.ListN.{length, getD, drop, take, replicate, length-append, length-drop, length-replicate, take-append-drop}
 use lib.Seq.{take-add, take-at, drop-at}
 use borrow.Author.Tests.{eqb-true, eq-eqb}
-use Rattle.ground.specs.Stands.{Stands}
+use Rattle.ground.specs.Lists.{Stands}
 use Rattle.ground.proofs.ListLaws.{stands-nil, stands-append, stands-one, head-at, rest-at}
 use Rattle.decimals.specs.Decimals.{nought}
 use Rattle.lines.specs.declared.form.Form.{Form}
-use Rattle.lines.specs.Lines.{
-  widthOf,
-  isEnd,
-  mark,
-  numberText,
-  numbersText,
-  lineText,
-  linesOf,
-  joined,
-  linesText,
-  rowOf,
-  NumberOk,
-  NumbersOk,
-  RowOk,
-  LinesOk,
-}
-use Rattle.lines.specs.Reads.{
-  got,
-  andThen,
-  begunAt,
-  hasAt,
-  onLine,
-  onto,
-  thenNumber,
-  numbersAt,
-  lineAt,
-  linesAt,
-  numberAt,
-}
+use Rattle.lines.specs.Lines.{widthOf, isEnd, mark, numberText, numbersText, lineText, linesOf, joined, linesText}
+use Rattle.lines.specs.Lines.{rowOf, NumberOk, NumbersOk, RowOk, LinesOk}
+use Rattle.lines.specs.Reads.{got, andThen, begunAt, hasAt, onLine, onto, thenNumber, numbersAt, lineAt, linesAt}
+use Rattle.lines.specs.Reads.{numberAt}
 use Rattle.lines.proofs.GotLaws.{got-then, got-line, got-onto, got-number, got-cond}
 use Rattle.lines.proofs.NumberLaws.{has-is, has-of, number-is, number-of}
 

@@ -8,23 +8,14 @@ use native.Mathlib.Nat.{zero-mul}
 use native.Mathlib.Omega.{arith}
 use lib.ListN.{length, take, drop, replicate, length-replicate, length-append}
 use lib.Seq.{take-nil}
-use Rattle.ground.specs.Stands.{Stands}
+use Rattle.ground.specs.Lists.{Stands}
 use Rattle.ground.proofs.ListLaws.{stands-nil, stands-append, rest-at}
-use Rattle.tables.specs.Instants.{Now}
+use Rattle.tables.specs.Tables.{Now}
 use Rattle.lines.specs.declared.form.Form.{Form}
 use Rattle.lines.specs.Lines.{widthOf, isEnd, lineText, linesOf, joined, rowOf, NumberOk, NumbersOk, LinesOk}
 use Rattle.lines.specs.Reads.{got, wrong, onto, onLine, lineAt, linesAt, placeOf}
-use Rattle.lines.proofs.GotLaws.{
-  by-got,
-  got-not-wrong,
-  wrong-place,
-  then-got,
-  then-wrong,
-  line-got,
-  line-wrong,
-  wrong-onto,
-  onto-place,
-}
+use Rattle.lines.proofs.GotLaws.{by-got, got-not-wrong, wrong-place, then-got, then-wrong, line-got, line-wrong}
+use Rattle.lines.proofs.GotLaws.{wrong-onto, onto-place}
 use Rattle.lines.proofs.LineLaws.{LineIs, line-is, line-of, ok-cons, long-cons, lines-cons}
 
 -- ---- as far as right lines stand, reading goes

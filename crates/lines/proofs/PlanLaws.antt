@@ -7,7 +7,7 @@ use Prim.Native.Nat.{ℕ, zero, suc, _+_, _-_, _≤_}
 use native.Mathlib.Omega.{arith}
 use lib.ListN.{length, take, drop, length-append}
 use lib.Seq.{take-nil, take-append-le, take-append-add}
-use Rattle.ground.specs.Stands.{Stands}
+use Rattle.ground.specs.Lists.{Stands}
 use Rattle.ground.proofs.TestLaws.{by-lt}
 use Rattle.ground.proofs.ListLaws.{stands-nil, stands-append, rest-at}
 use Rattle.lines.specs.declared.form.Form.{Form}

@@ -7,33 +7,15 @@ use native.Mathlib.Omega.{arith}
 use lib.ListN.{length, getD, drop, drop-of-length-le}
 use borrow.Author.Tests.{eq-eqb, ne-eqb, le-leb, lt-leb}
 use Rattle.ground.proofs.ListLaws.{drop-step, stands-within, within}
-use Rattle.tables.specs.Instants.{Now}
-use Rattle.lines.specs.Reads.{
-  Got,
-  endOf,
-  got,
-  wrong,
-  andThen,
-  begun,
-  begunAt,
-  atLeast,
-  orNow,
-  onto,
-  thenNumber,
-  numbersAt,
-  refusedAt,
-  onLine,
-  lineAt,
-  linesAt,
-  oneOf,
-  numberAt,
-}
+use Rattle.tables.specs.Tables.{Now}
+use Rattle.lines.specs.Reads.{Got, endOf, got, wrong, andThen, begun, begunAt, atLeast, orNow, onto, thenNumber}
+use Rattle.lines.specs.Reads.{numbersAt, refusedAt, onLine, lineAt, linesAt, oneOf, numberAt}
+use Rattle.lines.specs.Lines.{oneForm, isEnd, mark, nowWord, rowOf}
 use Rattle.decimals.specs.Decimals.{numAt}
 use Rattle.decimals.specs.declared.Num.{Num}
 use Rattle.decimals.specs.declared.Num.the-variants.{Is, Missing}
 use Rattle.lines.specs.declared.form.Form.{Form}
 use Rattle.lines.specs.declared.read.Ended.the-variants.{At, Wrong}
-use Rattle.lines.specs.Lines.{oneForm, isEnd, mark, nowWord, rowOf}
 use Rattle.lines.proofs.GotLaws.{at-got, at-wrong, end-got, end-wrong, onto-end}
 use Rattle.lines.proofs.LineLaws.{mark-pos, line-is}
 

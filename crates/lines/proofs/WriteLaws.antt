@@ -11,27 +11,14 @@ use lib.Seq.{sets, length-sets, drop-drop, getD-drop}
 use Rattle.ground.specs.Stores.{Put}
 use Rattle.ground.proofs.TestLaws.{by-test}
 use Rattle.ground.proofs.ListLaws.{drop-step, sets-append, put-append}
-use Rattle.tables.specs.Instants.{Now}
+use Rattle.tables.specs.Tables.{Now}
 use Rattle.decimals.specs.Decimals.{dec}
 use Rattle.decimals.proofs.DecimalLaws.{dec-ten}
 use Rattle.lines.specs.declared.form.Form.{Form}
-use Rattle.lines.specs.Lines.{
-  widthOf,
-  nowWord,
-  numberText,
-  numbersFrom,
-  numbersText,
-  oneForm,
-  lineText,
-  oneLine,
-  linesOf,
-  joined,
-  linesText,
-  mark,
-  isEnd,
-}
-use Rattle.lines.specs.Sizes.{mostNumber, mostKey, mostWidth, mostLine, Long}
-use Rattle.lines.specs.Sizes.{Countable, CountableLines, Writable, WritableLines}
+use Rattle.lines.specs.Lines.{widthOf, nowWord, numberText, numbersFrom, numbersText, oneForm, lineText, oneLine}
+use Rattle.lines.specs.Lines.{linesOf, joined, linesText, mark, isEnd}
+use Rattle.lines.specs.Sizes.{mostNumber, mostKey, mostWidth, mostLine, Long, Countable, CountableLines, Writable}
+use Rattle.lines.specs.Sizes.{WritableLines}
 use Rattle.lines.proofs.FillLaws.{line-room}
 
 -- ---- a run of bytes: j of them have been put, up to place i of out

@@ -21,7 +21,7 @@ use mathlib.Core.Path.{_≡_}
 use Prim.Native.Nat.{ℕ, zero, suc, _+_, _≤_}
 use lib.Dec.{eqb}
 use lib.ListN.{take, drop, replicate}
-use Rattle.tables.specs.Instants.{Now}
+use Rattle.tables.specs.Tables.{Now}
 use Rattle.decimals.specs.Decimals.{dec}
 use Rattle.lines.specs.declared.form.Form.{Form}
 

@@ -25,7 +25,7 @@ use mathlib.Core.List.{List, [], _∷_, _++_}
 use Prim.Native.Nat.{ℕ, zero, suc, _+_, _-_, _≤_}
 use lib.Dec.{leb, eqb}
 use lib.ListN.{length, getD, drop}
-use Rattle.tables.specs.Instants.{Now}
+use Rattle.tables.specs.Tables.{Now}
 use Rattle.decimals.specs.Decimals.{numAt}
 use Rattle.decimals.specs.declared.Num.{Num}
 use Rattle.decimals.specs.declared.Num.the-variants.{Is, Missing}

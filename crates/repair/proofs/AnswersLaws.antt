@@ -3,15 +3,17 @@ use mathlib.Core.Path.{_≡_, refl, sym, ap, subst, _∙_}
 use mathlib.Core.Bool.{true, false, false≢true}
 use mathlib.Core.List.{List}
 use Prim.Native.Nat.{ℕ}
-use Rattle.ground.specs.Least.{Before, Least, least}
+use Rattle.ground.specs.Least.{Before, Least}
+use Rattle.ground.specs.Searches.{least}
 use Rattle.ground.proofs.TestLaws.{by-test, by-lt}
 use Rattle.ground.proofs.LeastLaws.{least-unique, least-none, least-tells}
 use Rattle.answers.specs.declared.Answer.{Answer}
 use Rattle.answers.specs.declared.Answer.the-variants.{Done}
 use Rattle.answers.specs.Numbers.{refuses}
-use Rattle.tables.specs.Rows.{edgeAt, HasEdges, withEnd}
-use Rattle.tables.specs.Tables.{Table, Tables, edgeIn}
-use Rattle.tables.specs.Says.{historySays, Obeys}
+use Rattle.tables.specs.Tables.{edgeAt, withEnd, Table, Tables, edgeIn}
+use Rattle.tables.specs.Rows.{HasEdges}
+use Rattle.tables.specs.Says.{historySays}
+use Rattle.tables.specs.Rules.{Obeys}
 use Rattle.tables.proofs.RowLaws.{rows-same}
 use Rattle.tables.proofs.GivesLaws.{gives-is, gives-says, obeys-tells}
 use Rattle.history.proofs.RuledLaws.{obeys-lent}

@@ -6,10 +6,11 @@ use Prim.Native.Nat.{ℕ, zero, suc, _≤_, _<_}
 use native.Mathlib.Decide.{ℕ-discrete}
 use native.Mathlib.Omega.{arith}
 use lib.Dec.{ltb, eqb}
-use Rattle.ground.specs.Least.{Any, any}
+use Rattle.ground.specs.Least.{Any}
+use Rattle.ground.specs.Searches.{any}
 use Rattle.ground.proofs.TestLaws.{by-test, tells-and, tells-eq, tells-lt, tells-fail}
 use Rattle.ground.proofs.LeastLaws.{below-suc, any-dec}
-use Rattle.tables.specs.Rows.{Edge}
+use Rattle.tables.specs.Tables.{EdgeRow}
 use Rattle.repair.specs.Ends.{Row, sooner, nextStart, lastEnd, tied}
 use Rattle.repair.specs.Stays.{OnlyEnds}
 
@@ -24,12 +25,12 @@ sooner-tells a (suc n) t h = (
   λ (l, u) z. let r = u (omega arith) in omega arith,
 )
 
-module _ (edge : ℕ → Edge) (c : ℕ) where
+module _ (edge : ℕ → EdgeRow) (c : ℕ) where
   -- some of m rows into c has the number v as its start, or as its end
-  abbrev pub Some : (Edge → ℕ) → ℕ → ℕ → Type 0
+  abbrev pub Some : (EdgeRow → ℕ) → ℕ → ℕ → Type 0
   Some f m v = Any (λ j. (edge j .child ≡ c) × (f (edge j) ≡ v)) m
 
-  pub some-dec : (f : Edge → ℕ) (m v : ℕ) → Dec (Some f m v)
+  pub some-dec : (f : EdgeRow → ℕ) (m v : ℕ) → Dec (Some f m v)
   some-dec f m v = any-dec _ (λ j. Dec·and (ℕ-discrete (edge j .child) c) (ℕ-discrete (f (edge j)) v)) m
 
   -- what holds of every row into c of m, and of row m if it is one, holds of every one of m + 1
@@ -89,12 +90,12 @@ module _ (edge : ℕ → Edge) (c : ℕ) where
     )
 
 -- rows that differ in their ends alone have the same ties and the same next starts
-module _ (e d : ℕ → Edge) (same : OnlyEnds e d) where
+module _ (e d : ℕ → EdgeRow) (same : OnlyEnds e d) where
   pub same-child : (i : ℕ) → d i .child ≡ e i .child
-  same-child i = ap (λ (x : Edge). x .child) (same i)
+  same-child i = ap (λ (x : EdgeRow). x .child) (same i)
 
   pub same-from : (i : ℕ) → d i .from ≡ e i .from
-  same-from i = ap (λ (x : Edge). x .from) (same i)
+  same-from i = ap (λ (x : EdgeRow). x .from) (same i)
 
   pub row-before : (m c i : ℕ) → Row d m c i → Row e m c i
   row-before m c i (h, q) = (h, sym (same-child i) ∙ q)

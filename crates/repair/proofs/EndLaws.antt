@@ -6,7 +6,7 @@ use native.Mathlib.Numerals.{add-one}
 use native.Mathlib.Omega.{arith}
 use lib.Dec.{ltb}
 use borrow.Author.Tests.{eq-eqb, ne-eqb}
-use Rattle.tables.specs.Rows.{Edge}
+use Rattle.tables.specs.Tables.{EdgeRow}
 use Rattle.repair.specs.Ends.{sooner, nextStart, lastEnd, endBefore}
 use Rattle.repair.specs.Steps.{Bounded}
 
@@ -20,7 +20,7 @@ end-before zero last h = absurd (h refl)
 end-before (suc s) last h = omega arith
 
 -- the loop over the rows into c at its beginning, and after a turn: row i is into c, or is not
-module _ (edge : ℕ → Edge) (c s : ℕ) where
+module _ (edge : ℕ → EdgeRow) (c s : ℕ) where
   pub bounded-none : Bounded edge 0 c s 0 0
   unfolding nextStart lastEnd
   bounded-none = record { start = refl; end = refl }

@@ -6,7 +6,8 @@ use mathlib.Core.List.{List}
 use Prim.Native.Nat.{ℕ, _≤_, _<_}
 use native.Mathlib.Omega.{arith}
 use lib.ListN.{length}
-use Rattle.tables.specs.Rows.{Edge, edgeAt, HasEdges}
+use Rattle.tables.specs.Tables.{EdgeRow, edgeAt}
+use Rattle.tables.specs.Rows.{HasEdges}
 use Rattle.history.specs.Faults.{Overlap, Gap}
 use Rattle.repair.specs.Ends.{Largest, NewEnd, tied, newEnd, repaired}
 use Rattle.repair.specs.Stays.{OnlyEnds, Stay, OneLatest}
@@ -18,10 +19,10 @@ use Rattle.repair.proofs.NewEndLaws.{last-sound, from-le-new, new-end-s
 use Rattle.repair.proofs.StayLaws.{NewEnds, one-latest, last-stays, new-again}
 
 module _ (es : List ℕ) (m : ℕ) (has : HasEdges es m) where
-  abbrev before : ℕ → Edge
+  abbrev before : ℕ → EdgeRow
   before = edgeAt es
 
-  abbrev after : ℕ → Edge
+  abbrev after : ℕ → EdgeRow
   after = edgeAt (repaired es m)
 
   pub left-length : length (repaired es m) ≡ length es
@@ -33,7 +34,7 @@ module _ (es : List ℕ) (m : ℕ) (has : HasEdges es m) where
   left-frame = ends-frame es (newEnd before m) m has
 
   left-ends : NewEnds before after m
-  left-ends = record { frame = left-frame; ends = λ i h. ap (λ (x : Edge). x .to) (repaired-row es m has i h) }
+  left-ends = record { frame = left-frame; ends = λ i h. ap (λ (x : EdgeRow). x .to) (repaired-row es m has i h) }
 
   pub left-new : (i : ℕ) → i < m → NewEnd before m i (after i .to)
   left-new i h = rw (left-ends .ends i h) (new-end-sound before m i h)
@@ -41,7 +42,7 @@ module _ (es : List ℕ) (m : ℕ) (has : HasEdges es m) where
   -- the rows past them stay
   pub left-rest : (i : ℕ) → m ≤ i → after i .to ≡ before i .to
   unfolding repaired
-  left-rest i h = ap (λ (x : Edge). x .to) (ends-rest es (newEnd before m) m i h)
+  left-rest i h = ap (λ (x : EdgeRow). x .to) (ends-rest es (newEnd before m) m i h)
 
   -- where no row ends before it starts, none does afterwards, the last ends stay, and a second repair changes nothing
   module _ (right : (i : ℕ) → i < m → before i .from ≤ before i .to) where

@@ -7,11 +7,11 @@ use native.Mathlib.Decide.{ℕ-discrete, decLt}
 use native.Mathlib.Omega.{arith}
 use Rattle.ground.specs.Least.{Any, Least}
 use Rattle.ground.proofs.LeastLaws.{not-lt→le, not-le→lt, any-dec, least-exists}
-use Rattle.tables.specs.Rows.{Edge}
+use Rattle.tables.specs.Tables.{EdgeRow}
 use Rattle.repair.specs.Ends.{Row, Next, Largest, NewEnd, nextStart, lastEnd, endBefore, newEnd}
 use Rattle.repair.proofs.BoundLaws.{Some, some-dec, Until, last-tells, last-upper, next-tells}
 
-module _ (edge : ℕ → Edge) (m c : ℕ) where
+module _ (edge : ℕ → EdgeRow) (m c : ℕ) where
   abbrev Ends : ℕ → Type 0
   Ends = Some edge c (λ x. x .to) m
 
@@ -47,7 +47,7 @@ end-last : (next last : ℕ) → ((t : ℕ) → Until next t) → endBefore next
 end-last zero last u = refl
 end-last (suc s) last u = let h = u (suc s) (omega arith) in absurd (omega arith)
 
-module _ (edge : ℕ → Edge) (m c : ℕ) where
+module _ (edge : ℕ → EdgeRow) (m c : ℕ) where
   -- the next start after that of row i; and that every such start is after t
   abbrev next : ℕ → ℕ
   next i = nextStart edge c (edge i .from) m
@@ -87,7 +87,7 @@ module _ (edge : ℕ → Edge) (m c : ℕ) where
       new-le-last = not-lt→le (λ h. let e = new-last (alone h) in omega arith)
 
 -- so the new end is the document's
-module _ (edge : ℕ → Edge) (m i : ℕ) (h : i < m) where
+module _ (edge : ℕ → EdgeRow) (m i : ℕ) (h : i < m) where
   abbrev c : ℕ
   c = edge i .child
 
@@ -120,13 +120,13 @@ module _ (edge : ℕ → Edge) (m i : ℕ) (h : i < m) where
       none-clear none t j q l = let g = none j q in absurd (omega arith)
 
 -- and no other end is
-pub largest-unique : {edge : ℕ → Edge} {m c e d : ℕ} → Largest edge m c e → Largest edge m c d → e ≡ d
+pub largest-unique : {edge : ℕ → EdgeRow} {m c e d : ℕ} → Largest edge m c e → Largest edge m c d → e ≡ d
 largest-unique x y =
     let (j, r, p) = x .end in
     let (k, q, t) = y .end in
     omega (arith, y .most j r, x .most k q)
 
-module _ (edge : ℕ → Edge) (m i : ℕ) where
+module _ (edge : ℕ → EdgeRow) (m i : ℕ) where
   abbrev child : ℕ
   child = edge i .child
 

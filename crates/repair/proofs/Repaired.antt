@@ -21,17 +21,14 @@ use mathlib.Core.Bool.{true, false}
 use mathlib.Core.List.{List}
 use Prim.Native.Nat.{ℕ, _≤_, _<_}
 use lib.ListN.{length}
-use Rattle.ground.specs.Least.{Before}
+use Rattle.ground.specs.Least.{Before, Smallest}
 use Rattle.ground.proofs.TestLaws.{by-test}
 use Rattle.answers.specs.declared.Answer.{Answer}
 use Rattle.answers.specs.declared.Answer.the-variants.{Done, Tie}
 use Rattle.answers.specs.Numbers.{refuses}
-use Rattle.tables.specs.Rows.{edgeAt, HasEdges}
-use Rattle.tables.specs.Tables.{Tables, table, nodeIn}
-use Rattle.tables.specs.Sizes.{EdgesSize}
-use Rattle.tables.specs.Rules.{EdgeRule}
-use Rattle.tables.specs.Says.{Obeys}
-use Rattle.tables.specs.Gives.{Smallest}
+use Rattle.tables.specs.Tables.{edgeAt, Tables, table, nodeIn}
+use Rattle.tables.specs.Rows.{HasEdges}
+use Rattle.tables.specs.Rules.{EdgesSize, EdgeRule, Obeys}
 use Rattle.history.specs.Faults.{Overlap, Gap}
 use Rattle.history.proofs.RuledLaws.{obeys-lent}
 use Rattle.repair.specs.Ends.{Tied, Largest, NewEnd, tied, repaired, changed}
@@ -39,22 +36,9 @@ use Rattle.repair.specs.Stays.{OnlyEnds, Stay, OneLatest}
 use Rattle.repair.specs.Answers.{Mended, Answers, Repaired, tie, done, withEdges}
 use Rattle.repair.proofs.TieLaws.{untied-tells}
 use Rattle.repair.proofs.SaysLaws.{changed-none}
-use Rattle.repair.proofs.LeftLaws.{
-  left-right,
-  left-last,
-  left-again,
-  left-untied,
-  left-one,
-  left-no-overlap,
-  left-no-gap,
-}
-use Rattle.repair.proofs.AnswersLaws.{
-  obeys-mended,
-  answers-is,
-  done-given,
-  repaired-left,
-  outcome-of,
-}
+use Rattle.repair.proofs.LeftLaws.{left-right, left-last, left-again, left-untied, left-one, left-no-overlap}
+use Rattle.repair.proofs.LeftLaws.{left-no-gap}
+use Rattle.repair.proofs.AnswersLaws.{obeys-mended, answers-is, done-given, repaired-left, outcome-of}
 
 pub answers-unique : {L : Tables} {a b : Answer} → Answers L a → Answers L b → a ≡ b
 answers-unique {L} x y = answers-is L x ∙ sym (answers-is L y)

@@ -4,16 +4,16 @@ use mathlib.Core.Bool.{true, false, not}
 use mathlib.Core.List.{List}
 use Prim.Native.Nat.{ℕ, _≤_, _<_}
 use borrow.Author.Tests.{eq-eqb, lt-ltb, le-ltb}
-use Rattle.ground.specs.Least.{least}
+use Rattle.ground.specs.Searches.{least}
 use Rattle.ground.specs.Sums.{bit}
 use Rattle.ground.proofs.SumLaws.{sum-zero}
 use Rattle.answers.specs.declared.Answer.{Answer}
 use Rattle.answers.specs.declared.Answer.the-variants.{Done, Tie}
 use Rattle.answers.specs.Numbers.{refuses}
-use Rattle.tables.specs.Rows.{Edge, edgeAt, HasEdges}
-use Rattle.tables.specs.Tables.{Tables}
-use Rattle.tables.specs.Sizes.{mostEdges}
-use Rattle.tables.specs.Says.{historySays, Obeys}
+use Rattle.tables.specs.Tables.{EdgeRow, edgeAt, Tables}
+use Rattle.tables.specs.Rows.{HasEdges}
+use Rattle.tables.specs.Rules.{mostEdges}
+use Rattle.tables.specs.Says.{historySays}
 use Rattle.tables.proofs.GivesLaws.{obeys-tells}
 use Rattle.history.proofs.RuledLaws.{obeys-lent}
 use Rattle.repair.specs.Ends.{tied, newEnd, repaired, changed}
@@ -59,5 +59,5 @@ unfolding settleSays
 untied-settle es m none = rw (le-ltb (least (tied (edgeAt es)) m) m none)
 
 -- no row of a table differs from itself
-pub changed-none : (edge : ℕ → Edge) (m : ℕ) → changed edge edge m ≡ 0
+pub changed-none : (edge : ℕ → EdgeRow) (m : ℕ) → changed edge edge m ≡ 0
 changed-none edge m = sum-zero _ m (λ i h. ap (λ b. bit (not b)) (eq-eqb (edge i .to) (edge i .to) refl))

@@ -4,25 +4,16 @@ use mathlib.Core.Logic.{⊎-elim}
 use Prim.Native.Nat.{ℕ, suc, _≤_, _<_}
 use native.Mathlib.Omega.{arith}
 use Rattle.ground.proofs.LeastLaws.{not-lt→le, Greatest, greatest-exists}
-use Rattle.tables.specs.Rows.{Edge}
+use Rattle.tables.specs.Tables.{EdgeRow}
 use Rattle.history.specs.Faults.{Into}
 use Rattle.repair.specs.Ends.{SameStart, Row, lastEnd, newEnd}
 use Rattle.repair.specs.Stays.{OnlyEnds, Stay, Latest, OneLatest}
-use Rattle.repair.proofs.BoundLaws.{
-  Some,
-  some-dec,
-  last-upper,
-  same-child,
-  same-from,
-  row-before,
-  row-after,
-  next-same,
-  last-same,
-}
+use Rattle.repair.proofs.BoundLaws.{Some, some-dec, last-upper, same-child, same-from, row-before, row-after}
+use Rattle.repair.proofs.BoundLaws.{next-same, last-same}
 use Rattle.repair.proofs.NewEndLaws.{new-clear, clear-new, new-le-last}
 
 -- where a row into c started up to t, one of those started last
-module _ (edge : ℕ → Edge) (m c t : ℕ) where
+module _ (edge : ℕ → EdgeRow) (m c t : ℕ) where
   abbrev Starts : ℕ → Type 0
   Starts = Some edge c (λ x. x .from) m
 
@@ -44,11 +35,11 @@ module _ (edge : ℕ → Edge) (m c t : ℕ) where
       (greatest-exists Starts (some-dec edge c (λ x. x .from) m) (suc t))
 
 -- rows e that become d: only ends change, and the m rows have their new ends
-pub record NewEnds (e d : ℕ → Edge) (m : ℕ) : Type 0 where
+pub record NewEnds (e d : ℕ → EdgeRow) (m : ℕ) : Type 0 where
   pub frame : OnlyEnds e d
   pub ends : (i : ℕ) → i < m → d i .to ≡ newEnd e m i
 
-module _ (e d : ℕ → Edge) (m : ℕ) (x : NewEnds e d m) (c : ℕ) where
+module _ (e d : ℕ → EdgeRow) (m : ℕ) (x : NewEnds e d m) (c : ℕ) where
   in-force-latest : (t i : ℕ) → Into m d t c i → Latest e m c t i
   in-force-latest t i f =
       let r = row-before e d (x .frame) m c i (f .row, f .into) in
@@ -80,7 +71,7 @@ module _ (e d : ℕ → Edge) (m : ℕ) (x : NewEnds e d m) (c : ℕ) where
       record {
         row = i;
         latest = l;
-        parent = ap (λ (y : Edge). y .parent) (x .frame i);
+        parent = ap (λ (y : EdgeRow). y .parent) (x .frame i);
         in-force = latest-in-force t i (omega (arith, last-upper e c m k p)) l;
         only = λ n f. same n i (in-force-latest t n f) l;
       }
@@ -105,7 +96,7 @@ module _ (e d : ℕ → Edge) (m : ℕ) (x : NewEnds e d m) (c : ℕ) where
           omega (arith, f .force .1, last-upper d c m k (f .row, f .into))
 
 -- the new ends of rows that have theirs are the same
-pub new-again : (e d : ℕ → Edge) (m : ℕ) → NewEnds e d m → ((i : ℕ) → i < m → e i .from ≤ e i .to)
+pub new-again : (e d : ℕ → EdgeRow) (m : ℕ) → NewEnds e d m → ((i : ℕ) → i < m → e i .from ≤ e i .to)
     → (i : ℕ) → newEnd d m i ≡ newEnd e m i
 unfolding newEnd
 new-again e d m x right i =

@@ -11,7 +11,8 @@ use borrow.Author.Tests.{eq-eqb, ne-eqb}
 use Rattle.ground.specs.Sums.{sum, bit}
 use Rattle.ground.proofs.ListLaws.{set-below}
 use Rattle.ground.proofs.SumLaws.{sum-more, sum-ext, count-le}
-use Rattle.tables.specs.Rows.{Edge, edgeAt, HasEdges, withEnd, setEnd}
+use Rattle.tables.specs.Tables.{EdgeRow, edgeAt, withEnd}
+use Rattle.tables.specs.Rows.{HasEdges, setEnd}
 use Rattle.repair.specs.Ends.{newEnd, withEnds, repaired, changed}
 use Rattle.repair.specs.Steps.{Found, changes, Written}
 use Rattle.repair.proofs.StoreLaws.{ends-more, ends-rest, ends-done, ends-same}
@@ -75,4 +76,4 @@ module _ (es : List ℕ) (m : ℕ) (has : HasEdges es m) where
   pub changes-differ : changes (edgeAt es) (newEnd (edgeAt es) m) m ≡ changed (edgeAt es) (edgeAt (repaired es m)) m
   unfolding changes
   changes-differ =
-      sum-ext _ _ m (λ i h. ap (λ (x : Edge). bit (not (eqb (edgeAt es i .to) (x .to)))) (sym (repaired-row i h)))
+      sum-ext _ _ m (λ i h. ap (λ (x : EdgeRow). bit (not (eqb (edgeAt es i .to) (x .to)))) (sym (repaired-row i h)))

@@ -6,14 +6,15 @@ use native.Mathlib.Decide.{ℕ-discrete, decLt}
 use native.Mathlib.Numerals.{add-one}
 use native.Mathlib.Omega.{arith}
 use lib.ListN.{length}
-use Rattle.tables.specs.Rows.{Edge, edgeAt, HasEdges, withEnd, setEnd}
+use Rattle.tables.specs.Tables.{EdgeRow, edgeAt, withEnd}
+use Rattle.tables.specs.Rows.{HasEdges, setEnd}
 use Rattle.tables.proofs.RowLaws.{end-same, end-other, end-length, end-twice, end-comm}
 use Rattle.repair.specs.Ends.{withEnds}
 use Rattle.repair.specs.Stays.{OnlyEnds}
 
 -- a row whose end was stored differs in its end alone
-end-own : (e d : Edge) (v : ℕ) → d ≡ withEnd e v → d ≡ withEnd e (d .to)
-end-own e d v q = q ∙ ap (λ (x : Edge). withEnd e (x .to)) (sym q)
+end-own : (e d : EdgeRow) (v : ℕ) → d ≡ withEnd e v → d ≡ withEnd e (d .to)
+end-own e d v q = q ∙ ap (λ (x : EdgeRow). withEnd e (x .to)) (sym q)
 
 module _ (es : List ℕ) (f : ℕ → ℕ) where
   pub ends-length : (k : ℕ) → length (withEnds es f k) ≡ length es
@@ -52,7 +53,7 @@ module _ (es : List ℕ) (f : ℕ → ℕ) where
   pub ends-frame : (k : ℕ) → HasEdges es k → OnlyEnds (edgeAt es) (edgeAt (withEnds es f k))
   ends-frame k has i = go (decLt i k)
     where
-      after : Edge
+      after : EdgeRow
       after = edgeAt (withEnds es f k) i
 
       go : Dec (i < k) → after ≡ withEnd (edgeAt es i) (after .to)

@@ -6,13 +6,14 @@ use Prim.Native.Nat.{ℕ, _≤_, _<_}
 use native.Mathlib.Omega.{arith}
 use lib.Dec.{eqb}
 use Rattle.ground.specs.Tests.{Tells}
-use Rattle.ground.specs.Least.{Before, Passes}
+use Rattle.ground.specs.Least.{Before}
+use Rattle.ground.specs.Searches.{Passes}
 use Rattle.ground.proofs.TestLaws.{tells-and, tells-eq, tells-fail, tells-fails}
 use Rattle.ground.proofs.LeastLaws.{not-lt→le, any-tells}
-use Rattle.tables.specs.Rows.{Edge}
+use Rattle.tables.specs.Tables.{EdgeRow}
 use Rattle.repair.specs.Ends.{SameStart, Tied, sameStart, tied}
 
-module _ (edge : ℕ → Edge) where
+module _ (edge : ℕ → EdgeRow) where
   same-start-tells : (i j : ℕ) → Tells (sameStart edge i j) (SameStart edge i j)
   same-start-tells i j =
       tells-and (eqb (edge j .child) (edge i .child)) (eqb (edge j .from) (edge i .from)) (tells-eq _ _) (tells-eq _ _)

@@ -10,14 +10,12 @@ use mathlib.Core.Bool.{true, false}
 use mathlib.Core.List.{List}
 use Prim.Native.Nat.{ℕ, _≤_, _<_}
 use lib.ListN.{length}
-use Rattle.ground.specs.Least.{Before}
+use Rattle.ground.specs.Least.{Before, Smallest}
 use Rattle.answers.specs.declared.Answer.{Answer}
 use Rattle.answers.specs.declared.Answer.the-variants.{Done, Tie}
 use Rattle.answers.specs.Numbers.{refuses}
-use Rattle.tables.specs.Rows.{edgeAt}
-use Rattle.tables.specs.Tables.{Table, Tables, table, edgeIn}
-use Rattle.tables.specs.Says.{Obeys}
-use Rattle.tables.specs.Gives.{Smallest, Gives}
+use Rattle.tables.specs.Tables.{edgeAt, Table, Tables, table, edgeIn}
+use Rattle.tables.specs.Rules.{Obeys, Gives}
 use Rattle.repair.specs.Ends.{Tied, NewEnd, changed}
 use Rattle.repair.specs.Stays.{OnlyEnds}
 

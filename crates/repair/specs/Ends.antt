@@ -17,28 +17,30 @@ use mathlib.Core.Bool.{Bool, cond, not, _&&_}
 use mathlib.Core.List.{List}
 use Prim.Native.Nat.{ℕ, zero, suc, _+_, _≤_, _<_, min, max}
 use lib.Dec.{ltb, eqb}
-use Rattle.ground.specs.Least.{Any, any}
+use Rattle.ground.specs.Least.{Any}
+use Rattle.ground.specs.Searches.{any}
 use Rattle.ground.specs.Sums.{count}
-use Rattle.tables.specs.Rows.{Edge, edgeAt, setEnd}
+use Rattle.tables.specs.Tables.{EdgeRow, edgeAt}
+use Rattle.tables.specs.Rows.{setEnd}
 
 -- [01:What the calls answer] "the smallest row that shares its child and its start with a smaller row"
-abbrev pub SameStart : (ℕ → Edge) → ℕ → ℕ → Type 0
+abbrev pub SameStart : (ℕ → EdgeRow) → ℕ → ℕ → Type 0
 SameStart edge i j = (edge j .child ≡ edge i .child) × (edge j .from ≡ edge i .from)
 
-abbrev pub Tied : (ℕ → Edge) → ℕ → Type 0
+abbrev pub Tied : (ℕ → EdgeRow) → ℕ → Type 0
 Tied edge i = Any (SameStart edge i) i
 
-abbrev pub sameStart : (ℕ → Edge) → ℕ → ℕ → Bool
+abbrev pub sameStart : (ℕ → EdgeRow) → ℕ → ℕ → Bool
 sameStart edge i j = eqb (edge j .child) (edge i .child) && eqb (edge j .from) (edge i .from)
 
-unfoldable pub tied : (ℕ → Edge) → ℕ → Bool
+unfoldable pub tied : (ℕ → EdgeRow) → ℕ → Bool
 tied edge i = any (sameStart edge i) i
 
-abbrev pub Row : (ℕ → Edge) → ℕ → ℕ → ℕ → Type 0
+abbrev pub Row : (ℕ → EdgeRow) → ℕ → ℕ → ℕ → Type 0
 Row edge m c i = (i < m) × (edge i .child ≡ c)
 
 -- [01:What the calls answer] "the next later start": among the rows into the child of row i
-pub record Next (edge : ℕ → Edge) (m i s : ℕ) : Type 0 where
+pub record Next (edge : ℕ → EdgeRow) (m i s : ℕ) : Type 0 where
   pub later : edge i .from < s
   pub start : (j : ℕ) × Row edge m (edge i .child) j × (edge j .from ≡ s)
   pub least : (j : ℕ) → Row edge m (edge i .child) j → edge i .from < edge j .from → s ≤ edge j .from
@@ -48,18 +50,18 @@ abbrev pub sooner : ℕ → ℕ → ℕ
 sooner a zero = a
 sooner a (suc b) = min a (suc b)
 
-unfoldable pub nextStart : (ℕ → Edge) → ℕ → ℕ → ℕ → ℕ
+unfoldable pub nextStart : (ℕ → EdgeRow) → ℕ → ℕ → ℕ → ℕ
 nextStart edge c s zero = 0
 nextStart edge c s (suc m) =
     let rest = nextStart edge c s m in
     cond (eqb (edge m .child) c && ltb s (edge m .from)) (sooner (edge m .from) rest) rest
 
 -- [01:What the calls answer] "the largest end that any of them had"
-pub record Largest (edge : ℕ → Edge) (m c e : ℕ) : Type 0 where
+pub record Largest (edge : ℕ → EdgeRow) (m c e : ℕ) : Type 0 where
   pub end : (j : ℕ) × Row edge m c j × (edge j .to ≡ e)
   pub most : (j : ℕ) → Row edge m c j → edge j .to ≤ e
 
-unfoldable pub lastEnd : (ℕ → Edge) → ℕ → ℕ → ℕ
+unfoldable pub lastEnd : (ℕ → EdgeRow) → ℕ → ℕ → ℕ
 lastEnd edge c zero = 0
 lastEnd edge c (suc m) =
     let rest = lastEnd edge c m in
@@ -67,7 +69,7 @@ lastEnd edge c (suc m) =
 
 -- [01:What the calls answer] "Among the rows into one child, each ends one instant before the next later start, and
 -- the row with the latest start ends at the largest end that any of them had."
-pub record NewEnd (edge : ℕ → Edge) (m i e : ℕ) : Type 0 where
+pub record NewEnd (edge : ℕ → EdgeRow) (m i e : ℕ) : Type 0 where
   pub before-next : (s : ℕ) → Next edge m i s → e + 1 ≡ s
   pub latest : ((j : ℕ) → Row edge m (edge i .child) j → edge j .from ≤ edge i .from) → Largest edge m (edge i .child) e
 
@@ -76,7 +78,7 @@ abbrev pub endBefore : ℕ → ℕ → ℕ
 endBefore zero last = last
 endBefore (suc s) last = s
 
-unfoldable pub newEnd : (ℕ → Edge) → ℕ → ℕ → ℕ
+unfoldable pub newEnd : (ℕ → EdgeRow) → ℕ → ℕ → ℕ
 newEnd edge m i = endBefore (nextStart edge (edge i .child) (edge i .from) m) (lastEnd edge (edge i .child) m)
 
 unfoldable pub withEnds : List ℕ → (ℕ → ℕ) → ℕ → List ℕ
@@ -87,5 +89,5 @@ unfoldable pub repaired : List ℕ → ℕ → List ℕ
 repaired es m = withEnds es (newEnd (edgeAt es) m) m
 
 -- [01:What the calls answer] "Place is the count of rows whose end differs from before."
-abbrev pub changed : (ℕ → Edge) → (ℕ → Edge) → ℕ → ℕ
+abbrev pub changed : (ℕ → EdgeRow) → (ℕ → EdgeRow) → ℕ → ℕ
 changed before after = count (λ i. not (eqb (before i .to) (after i .to)))

@@ -13,8 +13,7 @@ use Rattle.answers.specs.declared.Answer.{Answer}
 use Rattle.answers.specs.declared.Answer.the-variants.{Done, Tie}
 use Rattle.answers.specs.Numbers.{refuses}
 use Rattle.answers.specs.Refusals.{_⨾_}
-use Rattle.tables.specs.Rows.{edgeAt}
-use Rattle.tables.specs.Tables.{Tables}
+use Rattle.tables.specs.Tables.{edgeAt, Tables}
 use Rattle.tables.specs.Says.{smallest, historySays}
 use Rattle.repair.specs.Ends.{tied, repaired, changed}
 

@@ -7,27 +7,27 @@
 -- Assumes nothing.
 use mathlib.Core.Path.{_≡_}
 use Prim.Native.Nat.{ℕ, _≤_}
-use Rattle.tables.specs.Rows.{Edge, withEnd}
+use Rattle.tables.specs.Tables.{EdgeRow, withEnd}
 use Rattle.history.specs.Faults.{Into}
 use Rattle.repair.specs.Ends.{Row}
 
 -- [01:What the calls answer] "Otherwise only ends change."
-abbrev pub OnlyEnds : (ℕ → Edge) → (ℕ → Edge) → Type 0
+abbrev pub OnlyEnds : (ℕ → EdgeRow) → (ℕ → EdgeRow) → Type 0
 OnlyEnds before after = (i : ℕ) → after i ≡ withEnd (before i) (after i .to)
 
 -- [01:What the calls answer] "from the child's first start to its last end": a row has started, one ends at t or later
-pub record Stay (edge : ℕ → Edge) (m c t : ℕ) : Type 0 where
+pub record Stay (edge : ℕ → EdgeRow) (m c t : ℕ) : Type 0 where
   pub started : (i : ℕ) × Row edge m c i × (edge i .from ≤ t)
   pub lasting : (i : ℕ) × Row edge m c i × (t ≤ edge i .to)
 
 -- [01:What the calls answer] "the row that started last"
-pub record Latest (edge : ℕ → Edge) (m c t i : ℕ) : Type 0 where
+pub record Latest (edge : ℕ → EdgeRow) (m c t i : ℕ) : Type 0 where
   pub row : Row edge m c i
   pub started : edge i .from ≤ t
   pub last : (j : ℕ) → Row edge m c j → edge j .from ≤ t → edge j .from ≤ edge i .from
 
 -- [01:What the calls answer] "the parent at each instant is that of the row that started last"
-pub record OneLatest (before after : ℕ → Edge) (m c t : ℕ) : Type 0 where
+pub record OneLatest (before after : ℕ → EdgeRow) (m c t : ℕ) : Type 0 where
   pub row : ℕ
   pub latest : Latest before m c t row
   pub parent : after row .parent ≡ before row .parent

@@ -13,10 +13,10 @@ use Prim.Native.Nat.{ℕ, _≤_, _<_}
 use lib.Dec.{eqb}
 use lib.ListN.{getD}
 use Rattle.ground.specs.Sums.{count}
-use Rattle.tables.specs.Rows.{Edge, edgeAt}
+use Rattle.tables.specs.Tables.{EdgeRow, edgeAt}
 use Rattle.repair.specs.Ends.{nextStart, lastEnd, withEnds}
 
-pub record Bounded (edge : ℕ → Edge) (m c s next last : ℕ) : Type 0 where
+pub record Bounded (edge : ℕ → EdgeRow) (m c s next last : ℕ) : Type 0 where
   pub start : next ≡ nextStart edge c s m
   pub end : last ≡ lastEnd edge c m
 
@@ -27,7 +27,7 @@ pub record Found (f : ℕ → ℕ) (m : ℕ) (before after : List ℕ) : Type 0 
   pub ends : (i : ℕ) → i < m → nth after i ≡ f i
   pub rest : (i : ℕ) → m ≤ i → nth after i ≡ nth before i
 
-unfoldable pub changes : (ℕ → Edge) → (ℕ → ℕ) → ℕ → ℕ
+unfoldable pub changes : (ℕ → EdgeRow) → (ℕ → ℕ) → ℕ → ℕ
 changes edge f = count (λ i. not (eqb (edge i .to) (f i)))
 
 pub record Written (es : List ℕ) (f : ℕ → ℕ) (m n : ℕ) (left : List ℕ) : Type 0 where

@@ -6,7 +6,7 @@ ghost use mathlib.Core.List.{[]};
 ghost use Prim.Native.Nat.{_≤_};
 ghost use Rattle.tables.specs.Rows.{HasEdges};
 ghost use Rattle.tables.specs.Tables.{lent};
-ghost use Rattle.tables.specs.Sizes.{mostEdges};
+ghost use Rattle.tables.specs.Rules.{mostEdges};
 ghost use Rattle.repair.specs.Says.{Settled};
 ghost use Rattle.repair.specs.Answers.{Repaired};
 use answers::Answer;

@@ -1,8 +1,9 @@
 // Two rows into one child that start together.
 ghost use mathlib.Core.Path.{_≡_};
 ghost use Prim.Native.Nat.{_+_};
-ghost use Rattle.ground.specs.Least.{least};
-ghost use Rattle.tables.specs.Rows.{edgeAt, HasEdges};
+ghost use Rattle.ground.specs.Searches.{least};
+ghost use Rattle.tables.specs.Tables.{edgeAt};
+ghost use Rattle.tables.specs.Rows.{HasEdges};
 ghost use Rattle.repair.specs.Ends.{sameStart, tied};
 use tables::rows::edge_child;
 use tables::rows::edge_from;

@@ -15,7 +15,7 @@ use Rattle.answers.specs.declared.Answer.{Answer}
 use Rattle.answers.specs.declared.Answer.the-variants.{Done, Room}
 use Rattle.answers.specs.Numbers.{refuses}
 use Rattle.tables.specs.Tables.{Tables}
-use Rattle.history.specs.History.{History, held}
+use Rattle.history.specs.Faults.{History, held}
 use Rattle.history.proofs.RuledLaws.{obeys-lent}
 use Rattle.snapshot.specs.Walk.{rowWidth, flat}
 use Rattle.snapshot.specs.Ready.{Ready, Readiness, refused, is-ready, readySays}
@@ -104,8 +104,8 @@ module _ (L : Tables) (t : ℕ) where
               few = s .ruled .few-nodes;
               listed = s .long;
               rows = obeys-lent L (known .obeys) .ref-rows;
-              attributes = λ i h. s .ruled .ref-ruled i h .attribute;
-              targets = λ i h. s .ruled .ref-ruled i h .target;
+              attributes = λ i h. s .ruled .ref-fits i h .attribute;
+              targets = λ i h. s .ruled .ref-fits i h .target;
               room = omega (arith, needed, ap length (ready-places L t x f));
             }
 

@@ -14,10 +14,9 @@ use Rattle.ground.specs.Lists.{All}
 use Rattle.ground.proofs.TestLaws.{by-test, tells-and, tells-eq}
 use Rattle.ground.proofs.LeastLaws.{any-tells}
 use Rattle.ground.proofs.SumLaws.{sum-zero, sum-one}
-use Rattle.tables.specs.Instants.{During}
-use Rattle.tables.specs.Rows.{Edge}
+use Rattle.tables.specs.Tables.{During, EdgeRow}
 use Rattle.tables.proofs.LabelLaws.{during-tells}
-use Rattle.history.specs.Faults.{NodesBelow}
+use Rattle.history.specs.Places.{NodesBelow}
 use Rattle.history.specs.Computed.{isInto}
 use Rattle.snapshot.specs.Snapshot.{below, isChild, childrenAt}
 use Rattle.snapshot.specs.Exact.{occurs, IsChild, Children}
@@ -76,7 +75,7 @@ unfolding below
 below-ext p q zero h = refl
 below-ext p q (suc k) h = rw (below-ext p q k (λ c g. h c (omega arith)), h k (omega arith))
 
-module _ (m : ℕ) (E : ℕ → Edge) (t : ℕ) where
+module _ (m : ℕ) (E : ℕ → EdgeRow) (t : ℕ) where
   pub into-tells : (c i : ℕ) → Tells (isInto m E t c i) ((E i .child ≡ c) × During (E i .from) (E i .to) t)
   into-tells c i = tells-and _ _ (tells-eq (E i .child) c) (during-tells (E i .from) (E i .to) t)
 

@@ -16,7 +16,7 @@ use Rattle.answers.specs.declared.Answer.{Answer}
 use Rattle.answers.specs.declared.Answer.the-variants.{Done}
 use Rattle.answers.specs.Numbers.{refuses}
 use Rattle.tables.specs.Tables.{Tables}
-use Rattle.history.specs.History.{History, held}
+use Rattle.history.specs.Faults.{History, held}
 use Rattle.history.proofs.RuledLaws.{ruled-below}
 use Rattle.snapshot.specs.Snapshot.{placesOf, rowsOf, written}
 use Rattle.snapshot.specs.Ready.{Ready}

@@ -11,17 +11,16 @@ use Rattle.ground.specs.Tests.{Tells}
 use Rattle.ground.specs.Least.{Any}
 use Rattle.ground.proofs.TestLaws.{tells-and, tells-fails}
 use Rattle.ground.proofs.LeastLaws.{any-tells}
-use Rattle.tables.specs.Instants.{During}
-use Rattle.tables.specs.Rows.{Edge}
-use Rattle.history.specs.History.{History, Ruled}
-use Rattle.history.specs.Faults.{Chain}
+use Rattle.tables.specs.Tables.{During, EdgeRow}
+use Rattle.history.specs.Faults.{History, Chain}
+use Rattle.history.specs.Ruled.{Ruled}
 use Rattle.history.proofs.Chains.{never-deep}
 use Rattle.history.proofs.RuledLaws.{ruled-below}
 use Rattle.history.proofs.Tree.{Tree}
 use Rattle.snapshot.specs.Depth.{mostDeep, TooDeep, climbs, tooDeep}
 use Rattle.snapshot.proofs.ChildLaws.{into-tells}
 
-module _ (m : ℕ) (E : ℕ → Edge) (t : ℕ) where
+module _ (m : ℕ) (E : ℕ → EdgeRow) (t : ℕ) where
   -- a chain of k rows leads to n
   abbrev Above : ℕ → ℕ → Type 0
   Above k n = (a : ℕ) × (is : List ℕ) × Chain m E t a n is × (length is ≡ k)
@@ -54,7 +53,7 @@ module _ (m : ℕ) (E : ℕ → Edge) (t : ℕ) where
 module _ (H : History) (t : ℕ) (r : Ruled H) where
   deep-below : (a b : ℕ) (is : List ℕ) → Chain (H .edges) (H .edge) t a b is → 0 < length is → b < H .nodes
   deep-below a b [] c h = absurd (omega arith)
-  deep-below a b (i ∷ is) (p, c) h = omega (arith, r .edge-ruled i (p .row) .child, p .into)
+  deep-below a b (i ∷ is) (p, c) h = omega (arith, r .edge-fits i (p .row) .child, p .into)
 
   pub deep-tells : Tells (tooDeep H t) (TooDeep H t)
   unfolding tooDeep

@@ -14,9 +14,9 @@ use Rattle.ground.specs.Sums.{bit, count}
 use Rattle.ground.specs.Lists.{All}
 use Rattle.ground.proofs.TestLaws.{tells-and, tells-not, tells-eq, tells-fails}
 use Rattle.ground.proofs.SumLaws.{sum-ext, sum-add, sum-one}
-use Rattle.tables.specs.Rows.{noNode, Edge}
-use Rattle.history.specs.History.{History, Ruled}
-use Rattle.history.specs.Faults.{Into, NoneInto, Chain, Here}
+use Rattle.tables.specs.Tables.{noNode, EdgeRow}
+use Rattle.history.specs.Faults.{History, Into, NoneInto, Chain, Here}
+use Rattle.history.specs.Ruled.{Ruled}
 use Rattle.history.proofs.Chains.{into-node, long-cycle}
 use Rattle.history.proofs.ComputedLaws.{present-tells}
 use Rattle.history.proofs.RuledLaws.{ruled-below}
@@ -27,7 +27,7 @@ use Rattle.snapshot.specs.Exact.{times, occurs, Children, Placed, isOthe
 use Rattle.snapshot.proofs.WalkLaws.{each-ext}
 use Rattle.snapshot.proofs.CountLaws.{last-row, no-row, occurs-all, walk-all, all-map, times-sum}
 
-module _ (m : ℕ) (E : ℕ → Edge) (t : ℕ) (kids : ℕ → List ℕ) (K : Children m E t kids) where
+module _ (m : ℕ) (E : ℕ → EdgeRow) (t : ℕ) (kids : ℕ → List ℕ) (K : Children m E t kids) where
   -- a node with no row in force into it is no child
   unheld : (x : ℕ) → NoneInto m E t x → (n : ℕ) → occurs x (kids n) ≡ 0
   unheld x none n = go (decLt 0 (occurs x (kids n)))
@@ -92,7 +92,7 @@ module _ (H : History) (t : ℕ) (r : Ruled H) (tree : Tree (H .edges) (H .edge)
   ps = subtree kids (H .nodes) noNode 0
 
   root : NoneInto (H .edges) (H .edge) t 0
-  root i p = r .edge-ruled i (p .row) .not-root (p .into)
+  root i p = r .edge-fits i (p .row) .not-root (p .into)
 
   once : (n : ℕ) → Here H t n → times n ps ≡ 1
   once n (inl (e, s)) = reached (H .edges) (H .edge) t kids K root tree [] n (H .nodes) noNode (sym e) (r .root)

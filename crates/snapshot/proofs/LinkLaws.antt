@@ -12,7 +12,7 @@ use lib.ListN.{length, getD, set, length-set}
 use lib.Seq.{getD-set-same, getD-set-other}
 use borrow.Author.Tests.{lt-ltb, le-ltb, ltb-true, ltb-false, eq-eqb, ne-eqb}
 use Rattle.ground.proofs.TestLaws.{by-test}
-use Rattle.tables.specs.Rows.{noNode}
+use Rattle.tables.specs.Tables.{noNode}
 use Rattle.snapshot.specs.Snapshot.{below}
 use Rattle.snapshot.specs.Lists.{Blank, Links, linkTo, linkFrom, follow, kidsOf, Runs, kidsBy}
 

@@ -13,26 +13,25 @@ use Rattle.ground.proofs.TestLaws.{by-test}
 use Rattle.ground.proofs.SumLaws.{count-le}
 use Rattle.answers.specs.declared.Answer.{Answer}
 use Rattle.answers.specs.declared.Answer.the-variants.{Early, Deep}
-use Rattle.answers.specs.Numbers.{refuses}
-use Rattle.answers.specs.Refusals.{passed, when}
+use Rattle.answers.specs.Numbers.{refuses, passed}
+use Rattle.answers.specs.Refusals.{when}
 use Rattle.answers.proofs.AnswerLaws.{faulty-refuses}
-use Rattle.tables.specs.Rows.{HasRefs}
 use Rattle.tables.specs.Tables.{Tables}
-use Rattle.tables.specs.Sizes.{mostNodes}
-use Rattle.tables.specs.Says.{historySays, Obeys}
-use Rattle.tables.specs.Gives.{Gives}
+use Rattle.tables.specs.Rules.{mostNodes, Obeys, Gives}
+use Rattle.tables.specs.Says.{historySays}
 use Rattle.tables.proofs.GivesLaws.{gives-is, gives-says, obeys-tells}
-use Rattle.history.specs.History.{History, Ruled, held}
-use Rattle.history.specs.Verdict.{Shown, Names, none, first}
+use Rattle.history.specs.Faults.{History, held, Shown}
+use Rattle.history.specs.Ruled.{Ruled}
+use Rattle.history.specs.Places.{Names, none, first}
 use Rattle.history.specs.Computed.{shownSay}
 use Rattle.history.proofs.SayLaws.{shown-named}
-use Rattle.history.proofs.RuledLaws.{obeys-ruled, obeys-lent}
+use Rattle.history.proofs.RuledLaws.{obeys-ruled}
 use Rattle.history.proofs.VerdictLaws.{names-unique}
 use Rattle.faults.specs.Judged.{Shows}
 use Rattle.snapshot.specs.Depth.{TooDeep, tooDeep}
-use Rattle.snapshot.specs.Ready.{Ready, Unready, Readiness, ruled-out, early, faulty, deep}
+use Rattle.snapshot.specs.Ready.{Ready, Unready, Readiness, ruled-out, early, faulty, deep, refused, is-ready}
+use Rattle.snapshot.specs.Ready.{instantSays, readySays}
 use Rattle.snapshot.specs.Readied.{Readied}
-use Rattle.snapshot.specs.Ready.{refused, is-ready, instantSays, readySays}
 use Rattle.snapshot.specs.Snapshot.{placesOf}
 use Rattle.snapshot.specs.Lists.{placesBy}
 use Rattle.snapshot.proofs.DepthLaws.{shallow, not-deep}

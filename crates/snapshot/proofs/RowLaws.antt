@@ -11,9 +11,9 @@ use Rattle.ground.specs.Sums.{bit, count}
 use Rattle.ground.proofs.TestLaws.{tells-and, tells-not, tells-eq, tells-lt}
 use Rattle.ground.proofs.SumLaws.{sum-ext}
 use Rattle.answers.specs.declared.Kind.the-variants as kind
-use Rattle.answers.specs.Numbers.{fault}
-use Rattle.history.specs.History.{History, Ruled}
-use Rattle.history.specs.Faults.{Into, Overlap, Here}
+use Rattle.answers.specs.Refusals.{fault}
+use Rattle.history.specs.Faults.{History, Into, Overlap, Here}
+use Rattle.history.specs.Ruled.{Ruled}
 use Rattle.history.proofs.ComputedLaws.{present-tells}
 use Rattle.history.proofs.RuledLaws.{ruled-below}
 use Rattle.history.proofs.Tree.{Tree}
@@ -21,7 +21,7 @@ use Rattle.faults.proofs.WalkLaws.{above-in}
 use Rattle.faults.proofs.LeafLaws.{slot-row, row-slot}
 use Rattle.faults.proofs.JudgeLaws.{view}
 use Rattle.faults.specs.Judged.{Seen}
-use Rattle.tables.specs.Rows.{noNode}
+use Rattle.tables.specs.Tables.{noNode}
 use Rattle.snapshot.specs.Ready.{NoneShown}
 use Rattle.snapshot.specs.Snapshot.{isChild, childrenOf, placesOf}
 use Rattle.snapshot.specs.Lists.{kidsBy, placesBy}
@@ -74,7 +74,7 @@ module _ (H : History) (t : ℕ) where
         tells-same _ _ (Iff·trans (tells-lt (getD parents c 0) (H .nodes)) (
           λ g.
               let (i, p) = some-row c hc g in
-              let ne : c ≢ 0 = λ e. seen .ruled .edge-ruled i (p .row) .not-root (p .into ∙ e) in
+              let ne : c ≢ 0 = λ e. seen .ruled .edge-fits i (p .row) .not-root (p .into ∙ e) in
               (ne, inr (ne, (i, p))),
           λ (ne, h). under ne h,
         )) (tells-and _ _ (tells-not _ (tells-eq c 0)) (present-tells (H .edges) (H .edge) t (H .start) c))

@@ -6,12 +6,12 @@ use Prim.Native.Nat.{ℕ, _*_, _≤_, _<_}
 use native.Mathlib.Omega.{arith}
 use lib.ListN.{length, getD, drop, replicate, getD-replicate, length-replicate}
 use Rattle.ground.specs.Lists.{front, All}
-use Rattle.tables.specs.Rows.{noNode, Ref, refAt}
-use Rattle.tables.specs.Sizes.{mostNodes}
+use Rattle.tables.specs.Tables.{noNode, RefRow, refAt}
+use Rattle.tables.specs.Rules.{mostNodes}
 use Rattle.snapshot.specs.Walk.{Place, subtree, rowWidth, flat}
 use Rattle.snapshot.specs.Snapshot.{referentAt}
-use Rattle.snapshot.specs.Lists.{Lists, Blank, Links, links, linkFrom, kidsOf, Runs, kidsBy, placesBy}
-use Rattle.snapshot.specs.Lists.{Walkable, Walked, Showable}
+use Rattle.snapshot.specs.Lists.{Lists, Blank, Links, links, linkFrom, kidsOf, Runs, kidsBy, placesBy, Walkable}
+use Rattle.snapshot.specs.Lists.{Walked, Showable}
 use Rattle.snapshot.proofs.LinkLaws.{link-runs, link-shows}
 use Rattle.snapshot.proofs.WalkLaws.{flat-length, flat-ext, subtree-ext}
 use Rattle.snapshot.proofs.CountLaws.{walk-all}
@@ -49,7 +49,7 @@ module _ (parents : List ℕ) (n : ℕ) (some : 0 < n) (few : n ≤ mostNodes) w
         subtree-ext (λ x. x < n) (kidsOf (l .first) (l .next) n) (kidsBy parents n) made-kids (λ p h. kids-below p) n
         noNode 0 some
 
-  pub show-rows : (k : ℕ) (R : ℕ → Ref) (t : ℕ) (referents : List ℕ) → n ≤ length referents
+  pub show-rows : (k : ℕ) (R : ℕ → RefRow) (t : ℕ) (referents : List ℕ) → n ≤ length referents
       → Lists (referentAt k R t) referents
       → flat (λ x. getD referents x 0) (placesBy parents n) ≡ flat (referentAt k R t) (placesBy parents n)
   show-rows k R t referents long lists =

@@ -10,10 +10,11 @@ use lib.Dec.{eqb}
 use lib.ListN.{length, getD, set, length-set}
 use lib.Seq.{getD-set-same, getD-set-other}
 use borrow.Author.Tests.{lt-ltb, le-ltb, eq-eqb, ne-eqb}
-use Rattle.ground.specs.Least.{Before, Least, Passes, least}
+use Rattle.ground.specs.Least.{Before, Least}
+use Rattle.ground.specs.Searches.{Passes, least}
 use Rattle.ground.proofs.TestLaws.{by-test}
 use Rattle.ground.proofs.LeastLaws.{least-none, least-tells, search-none, search-more, search-found, search-missed}
-use Rattle.tables.specs.Rows.{noNode}
+use Rattle.tables.specs.Tables.{noNode}
 use Rattle.snapshot.specs.Snapshot.{valueAt}
 use Rattle.snapshot.specs.Lists.{Lists, Blank, putFirst}
 

@@ -11,7 +11,7 @@ use lib.ListN.{length}
 use Rattle.answers.specs.declared.Answer.{Answer}
 use Rattle.answers.specs.declared.Answer.the-variants.{Done, Room}
 use Rattle.tables.specs.Tables.{Tables}
-use Rattle.history.specs.History.{held}
+use Rattle.history.specs.Faults.{held}
 use Rattle.snapshot.specs.Walk.{rowWidth}
 use Rattle.snapshot.specs.Depth.{TooDeep}
 use Rattle.snapshot.specs.Ready.{Ready, Unready}

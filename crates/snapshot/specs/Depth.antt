@@ -7,10 +7,9 @@ use mathlib.Core.Bool.{Bool, true, _&&_}
 use mathlib.Core.List.{List}
 use Prim.Native.Nat.{ℕ, zero, suc, _<_}
 use lib.ListN.{length}
-use Rattle.ground.specs.Least.{any}
-use Rattle.tables.specs.Rows.{Edge}
-use Rattle.history.specs.History.{History}
-use Rattle.history.specs.Faults.{Chain}
+use Rattle.ground.specs.Searches.{any}
+use Rattle.tables.specs.Tables.{EdgeRow}
+use Rattle.history.specs.Faults.{History, Chain}
 use Rattle.history.specs.Computed.{isInto}
 
 abbrev pub mostDeep : ℕ
@@ -21,7 +20,7 @@ abbrev pub TooDeep : History → ℕ → Type 0
 TooDeep H t = (a : ℕ) × (b : ℕ) × (is : List ℕ) × Chain (H .edges) (H .edge) t a b is × (mostDeep < length is)
 
 -- k rows, all in force, lead up from n. What a `let` binds waits: the search stops at a row that is not into n
-unfoldable pub climbs : ℕ → (ℕ → Edge) → ℕ → ℕ → ℕ → Bool
+unfoldable pub climbs : ℕ → (ℕ → EdgeRow) → ℕ → ℕ → ℕ → Bool
 climbs m E t zero n = true
 climbs m E t (suc k) n = any (λ i. let rest = climbs m E t k (E i .parent) in isInto m E t n i && rest) m
 

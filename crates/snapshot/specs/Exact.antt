@@ -19,9 +19,8 @@ use Rattle.ground.specs.Sums.{bit, count}
 use Rattle.ground.specs.Lists.{front, All}
 use Rattle.answers.specs.declared.Answer.{Answer}
 use Rattle.answers.specs.declared.Answer.the-variants.{Done}
-use Rattle.tables.specs.Rows.{noNode, Edge}
-use Rattle.history.specs.History.{History}
-use Rattle.history.specs.Faults.{Into, Here}
+use Rattle.tables.specs.Tables.{noNode, EdgeRow}
+use Rattle.history.specs.Faults.{History, Into, Here}
 use Rattle.history.specs.Computed.{isHere}
 use Rattle.snapshot.specs.Walk.{Place, each, subtree, flat}
 use Rattle.snapshot.specs.Snapshot.{referentAt, childrenOf}
@@ -34,7 +33,7 @@ unfoldable pub occurs : ℕ → List ℕ → ℕ
 occurs x [] = 0
 occurs x (y ∷ ys) = bit (eqb y x) + occurs x ys
 
-module _ (m : ℕ) (E : ℕ → Edge) (t : ℕ) where
+module _ (m : ℕ) (E : ℕ → EdgeRow) (t : ℕ) where
   abbrev pub IsChild : ℕ → ℕ → Type 0
   IsChild p c = (i : ℕ) × Into m E t c i × (E i .parent ≡ p)
 

@@ -18,8 +18,9 @@ use mathlib.Core.List.{List, [], _∷_, _++_}
 use Prim.Native.Nat.{ℕ, zero, suc, _*_, _≤_, _<_}
 use lib.Dec.{ltb, eqb}
 use lib.ListN.{length, getD, set, drop}
-use Rattle.tables.specs.Rows.{noNode, refAt, HasRefs}
-use Rattle.tables.specs.Sizes.{mostNodes}
+use Rattle.tables.specs.Tables.{noNode, refAt}
+use Rattle.tables.specs.Rows.{HasRefs}
+use Rattle.tables.specs.Rules.{mostNodes}
 use Rattle.snapshot.specs.Walk.{Place, subtree, rowWidth, flat}
 use Rattle.snapshot.specs.Snapshot.{below}
 

@@ -8,7 +8,7 @@ use Prim.Native.Nat.{ℕ}
 use Rattle.answers.specs.declared.Answer.{Answer}
 use Rattle.answers.specs.Numbers.{refuses}
 use Rattle.tables.specs.Tables.{Tables}
-use Rattle.history.specs.History.{held}
+use Rattle.history.specs.Faults.{held}
 use Rattle.faults.specs.Judged.{Seen}
 use Rattle.snapshot.specs.Ready.{Readiness}
 

@@ -15,13 +15,12 @@ use lib.Dec.{ltb}
 use Rattle.answers.specs.declared.Fault.{Fault}
 use Rattle.answers.specs.declared.Answer.{Answer}
 use Rattle.answers.specs.declared.Answer.the-variants.{Early, Deep, Faulty}
-use Rattle.answers.specs.Numbers.{refuses}
-use Rattle.answers.specs.Refusals.{passed, when, _⨾_}
+use Rattle.answers.specs.Numbers.{refuses, passed}
+use Rattle.answers.specs.Refusals.{when, _⨾_}
 use Rattle.tables.specs.Tables.{Tables}
-use Rattle.tables.specs.Says.{historySays, Obeys}
-use Rattle.tables.specs.Gives.{Gives}
-use Rattle.history.specs.History.{History, held}
-use Rattle.history.specs.Verdict.{First, Shown}
+use Rattle.tables.specs.Says.{historySays}
+use Rattle.tables.specs.Rules.{Obeys, Gives}
+use Rattle.history.specs.Faults.{History, held, First, Shown}
 use Rattle.history.specs.Computed.{shownSay}
 use Rattle.snapshot.specs.Depth.{TooDeep, tooDeep}
 

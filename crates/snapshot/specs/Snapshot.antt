@@ -13,16 +13,15 @@ use mathlib.Core.List.{List, [], _∷_, _++_}
 use Prim.Native.Nat.{ℕ, zero, suc, _*_}
 use lib.Dec.{ltb, eqb}
 use lib.ListN.{length}
-use Rattle.ground.specs.Least.{any, least}
+use Rattle.ground.specs.Searches.{any, least}
 use Rattle.ground.specs.Lists.{front}
 use Rattle.answers.specs.declared.Answer.{Answer}
 use Rattle.answers.specs.declared.Answer.the-variants.{Done, Room}
 use Rattle.answers.specs.Numbers.{refuses}
 use Rattle.answers.specs.Refusals.{when, _⨾_}
-use Rattle.tables.specs.Instants.{during}
-use Rattle.tables.specs.Rows.{Edge, Ref, noNode}
-use Rattle.tables.specs.Tables.{Tables}
-use Rattle.history.specs.History.{History, held}
+use Rattle.tables.specs.Labels.{during}
+use Rattle.tables.specs.Tables.{EdgeRow, RefRow, noNode, Tables}
+use Rattle.history.specs.Faults.{History, held}
 use Rattle.history.specs.Computed.{isInto}
 use Rattle.snapshot.specs.Walk.{Place, subtree, rowWidth, flat}
 use Rattle.snapshot.specs.Ready.{readySays}
@@ -31,7 +30,7 @@ unfoldable pub below : (ℕ → Bool) → ℕ → List ℕ
 below p zero = []
 below p (suc k) = below p k ++ cond (p k) (k ∷ []) []
 
-module _ (m : ℕ) (E : ℕ → Edge) (t : ℕ) where
+module _ (m : ℕ) (E : ℕ → EdgeRow) (t : ℕ) where
   unfoldable pub isChild : ℕ → ℕ → Bool
   isChild p c = any (λ i. eqb (E i .parent) p && isInto m E t c i) m
 
@@ -49,10 +48,10 @@ valueAt p v m = cond (ltb (least p m) m) (v (least p m)) noNode
 
 -- [01:What the calls answer] "Referent is the target of the smallest reference row in force from that node, or
 -- 4,294,967,295 if there is none."
-abbrev pub refersFrom : (ℕ → Ref) → ℕ → ℕ → ℕ → Bool
+abbrev pub refersFrom : (ℕ → RefRow) → ℕ → ℕ → ℕ → Bool
 refersFrom R t n i = eqb (R i .attribute) n && during (R i .from) (R i .to) t
 
-abbrev pub referentAt : ℕ → (ℕ → Ref) → ℕ → ℕ → ℕ
+abbrev pub referentAt : ℕ → (ℕ → RefRow) → ℕ → ℕ → ℕ
 referentAt k R t n = valueAt (refersFrom R t n) (λ i. R i .target) k
 
 abbrev pub childrenOf : History → ℕ → ℕ → List ℕ

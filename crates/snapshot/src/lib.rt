@@ -1,9 +1,8 @@
 // The call snapshot: what a history contains at an instant.
 ghost use mathlib.Core.Path.{_≡_};
 ghost use Rattle.ground.specs.Lists.{front};
-ghost use Rattle.tables.specs.Rows.{refAt};
-ghost use Rattle.tables.specs.Tables.{lent};
-ghost use Rattle.tables.specs.Sizes.{mostNodes};
+ghost use Rattle.tables.specs.Tables.{refAt, lent};
+ghost use Rattle.tables.specs.Rules.{mostNodes};
 ghost use Rattle.faults.specs.Slots.{Fresh};
 ghost use Rattle.snapshot.specs.Walk.{flat};
 ghost use Rattle.snapshot.specs.Readied.{Readied};

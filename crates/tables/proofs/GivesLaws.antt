@@ -11,36 +11,23 @@ use lib.Dec.{ltb}
 use lib.ListN.{length}
 use borrow.Author.Tests.{not-false, eq-eqb, ne-eqb, lt-ltb, le-ltb}
 use Rattle.ground.specs.Tests.{Tells}
-use Rattle.ground.specs.Least.{Least, least}
+use Rattle.ground.specs.Least.{Least, Smallest}
+use Rattle.ground.specs.Searches.{least}
 use Rattle.ground.proofs.TestLaws.{tells-and, tells-not, tells-le, tells-eq, tells-fails, tells-dec}
 use Rattle.ground.proofs.LeastLaws.{least-unique, least-tells, all-or-least, search-missed}
 use Rattle.answers.specs.declared.Answer.{Answer}
 use Rattle.answers.specs.declared.Answer.the-variants.{Start, Size, Node, Edge, Reference}
-use Rattle.answers.specs.Numbers.{refuses}
-use Rattle.answers.specs.Refusals.{passed, when}
+use Rattle.answers.specs.Numbers.{refuses, passed}
+use Rattle.answers.specs.Refusals.{when}
 use Rattle.answers.proofs.AnswerLaws.{both-pass, when-passes}
-use Rattle.tables.specs.Instants.{Now}
-use Rattle.tables.specs.Rows.{nodeWidth, edgeWidth, refWidth, edgeAt, refAt}
-use Rattle.tables.specs.Tables.{Table, Tables, nodeIn, edgeIn, refIn}
-use Rattle.tables.specs.Sizes.{
-  leastNodes,
-  mostNodes,
-  mostEdges,
-  mostRefs,
-  SizeRule,
-  sizeRule,
-  NodesSize,
-  EdgesSize,
-  RefsSize,
-  Sizes,
-  nodesFit,
-  edgesFit,
-  refsFit,
-}
-use Rattle.tables.specs.Rules.{NodeRule, EdgeRule, RefRule, badNode, badRow}
-use Rattle.tables.specs.Says.{sizesSay, rowsSay, historySays, Obeys}
-use Rattle.tables.specs.Gives.{Smallest, BadNode, BadEdge, BadRef, Gives}
-use Rattle.tables.specs.Gives.{nodes-size, edges-size, refs-size, start-now, node, edge, reference, nothing}
+use Rattle.tables.specs.Tables.{Now, nodeWidth, edgeWidth, refWidth, edgeAt, refAt, Table, Tables, nodeIn, edgeIn}
+use Rattle.tables.specs.Tables.{refIn}
+use Rattle.tables.specs.Rules.{leastNodes, mostNodes, mostEdges, mostRefs, SizeRule, NodesSize, EdgesSize}
+use Rattle.tables.specs.Rules.{RefsSize, Sizes, NodeRule, EdgeRule, RefRule, Obeys, BadNode, BadEdge, BadRef}
+use Rattle.tables.specs.Rules.{Gives, nodes-size, edges-size, refs-size, start-now, node, edge, reference}
+use Rattle.tables.specs.Rules.{nothing}
+use Rattle.tables.specs.Tests.{sizeRule, nodesFit, edgesFit, refsFit, badNode, badRow}
+use Rattle.tables.specs.Says.{sizesSay, rowsSay, historySays}
 use Rattle.tables.proofs.RuleLaws.{node-tells, edge-tells, ref-tells}
 
 pub size-tells : (w least most : ℕ) (x : Table) → 0 < w

@@ -8,7 +8,8 @@ use Rattle.ground.specs.Tests.{Tells}
 use Rattle.ground.proofs.TestLaws.{tells-and, tells-le}
 use Rattle.tables.specs.declared.label.Label.{Label}
 use Rattle.tables.specs.declared.label.End.the-variants.{At, Current}
-use Rattle.tables.specs.Instants.{Now, During, during, instantOf, endOf, labelOf}
+use Rattle.tables.specs.Tables.{Now, During}
+use Rattle.tables.specs.Labels.{during, instantOf, endOf, labelOf}
 
 pub during-tells : (from to t : ℕ) → Tells (during from to t) (During from to t)
 during-tells from to t = tells-and (leb from t) (leb t to) (tells-le from t) (tells-le t to)

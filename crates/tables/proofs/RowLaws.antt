@@ -10,20 +10,10 @@ use native.Mathlib.Omega.{arith}
 use lib.ListN.{length, getD, length-set}
 use lib.Seq.{getD-set-same, getD-set-other, set-set, set-comm, ext-getD, length-sets}
 use Rattle.ground.proofs.ListLaws.{sets-outside, sets-inside}
-use Rattle.tables.specs.Rows.{
-  Edge,
-  edgeWidth,
-  numberAt,
-  edgeAt,
-  HasEdges,
-  withEnd,
-  setEnd,
-  setRow,
-  edgeNumbers,
-  setEdge,
-}
+use Rattle.tables.specs.Tables.{EdgeRow, edgeWidth, cellAt, edgeAt, withEnd}
+use Rattle.tables.specs.Rows.{HasEdges, setEnd, setRow, edgeNumbers, setEdge}
 
-edge-path : (a b : Edge) → a .parent ≡ b .parent → a .child ≡ b .child → a .from ≡ b .from → a .to ≡ b .to → a ≡ b
+edge-path : (a b : EdgeRow) → a .parent ≡ b .parent → a .child ≡ b .child → a .from ≡ b .from → a .to ≡ b .to → a ≡ b
 edge-path a b p c f t = λ k. record { parent = p k; child = c k; from = f k; to = t k }
 
 pub end-same : (es : List ℕ) (i v : ℕ) → HasEdges es (suc i) → edgeAt (setEnd es i v) i ≡ withEnd (edgeAt es i) v
@@ -60,12 +50,12 @@ end-comm es i j v w h = set-comm es (i * edgeWidth + 3) (j * edgeWidth + 3) v w 
 -- two tables of one length that have the same rows are the same
 module _ (a b : List ℕ) where
   number-same : (i k : ℕ) → k < edgeWidth → edgeAt a i ≡ edgeAt b i
-      → numberAt edgeWidth a i k ≡ numberAt edgeWidth b i k
+      → cellAt edgeWidth a i k ≡ cellAt edgeWidth b i k
   unfolding edgeAt
-  number-same i zero h e = ap (λ (x : Edge). x .parent) e
-  number-same i (suc zero) h e = ap (λ (x : Edge). x .child) e
-  number-same i (suc (suc zero)) h e = ap (λ (x : Edge). x .from) e
-  number-same i (suc (suc (suc zero))) h e = ap (λ (x : Edge). x .to) e
+  number-same i zero h e = ap (λ (x : EdgeRow). x .parent) e
+  number-same i (suc zero) h e = ap (λ (x : EdgeRow). x .child) e
+  number-same i (suc (suc zero)) h e = ap (λ (x : EdgeRow). x .from) e
+  number-same i (suc (suc (suc zero))) h e = ap (λ (x : EdgeRow). x .to) e
   number-same i (suc (suc (suc (suc k)))) h e = absurd (omega arith)
 
   pub rows-same : length a ≡ length b → ((i : ℕ) → edgeAt a i ≡ edgeAt b i) → a ≡ b
@@ -79,11 +69,11 @@ module _ (a b : List ℕ) where
 -- a store of a whole row of at most w numbers: the numbers of that row, and of another
 module _ (w : ℕ) (xs : List ℕ) (i : ℕ) (ns : List ℕ) where
   row-number : (k : ℕ) → k < length ns → i * w + length ns ≤ length xs
-      → numberAt w (setRow w xs i ns) i k ≡ getD ns k 0
+      → cellAt w (setRow w xs i ns) i k ≡ getD ns k 0
   unfolding setRow
   row-number k h f = sets-inside xs (i * w) k ns h f
 
-  other-number : (j k : ℕ) → j ≢ i → k < w → length ns ≤ w → numberAt w (setRow w xs i ns) j k ≡ numberAt w xs j k
+  other-number : (j k : ℕ) → j ≢ i → k < w → length ns ≤ w → cellAt w (setRow w xs i ns) j k ≡ cellAt w xs j k
   unfolding setRow
   other-number j k ne h f = sets-outside xs (i * w) (j * w + k) ns (apart (decLt j i))
     where
@@ -98,7 +88,7 @@ module _ (w : ℕ) (xs : List ℕ) (i : ℕ) (ns : List ℕ) where
   row-length = length-sets xs (i * w) ns
 
 -- a containment row after a store of a whole row, and another
-module _ (es : List ℕ) (i : ℕ) (e : Edge) where
+module _ (es : List ℕ) (i : ℕ) (e : EdgeRow) where
   pub set-same : HasEdges es (suc i) → edgeAt (setEdge es i e) i ≡ e
   unfolding edgeAt
   set-same h =
@@ -121,7 +111,7 @@ module _ (es : List ℕ) (i : ℕ) (e : Edge) where
   set-length = row-length edgeWidth es i (edgeNumbers e)
 
 -- of two stores to one row the later stays, and a row that is stored again is put back
-pub set-twice : (es : List ℕ) (i : ℕ) (d e : Edge) → HasEdges es (suc i)
+pub set-twice : (es : List ℕ) (i : ℕ) (d e : EdgeRow) → HasEdges es (suc i)
     → setEdge (setEdge es i d) i e ≡ setEdge es i e
 set-twice es i d e h =
     rows-same _ _ (set-length (setEdge es i d) i e ∙ set-length es i d ∙ sym (set-length es i e))
@@ -131,7 +121,7 @@ set-twice es i d e h =
     at j (yes q) = rw q (set-same (setEdge es i d) i e (rw (set-length es i d) h) ∙ sym (set-same es i e h))
     at j (no q) = set-other (setEdge es i d) i e j q ∙ set-other es i d j q ∙ sym (set-other es i e j q)
 
-pub set-back : (es : List ℕ) (i : ℕ) (e : Edge) → HasEdges es (suc i) → setEdge (setEdge es i e) i (edgeAt es i) ≡ es
+pub set-back : (es : List ℕ) (i : ℕ) (e : EdgeRow) → HasEdges es (suc i) → setEdge (setEdge es i e) i (edgeAt es i) ≡ es
 set-back es i e h = set-twice es i e (edgeAt es i) h ∙ rows-same _ _ (set-length es i _) (λ j. at j (ℕ-discrete j i))
   where
     at : (j : ℕ) → Dec (j ≡ i) → edgeAt (setEdge es i (edgeAt es i)) j ≡ edgeAt es j

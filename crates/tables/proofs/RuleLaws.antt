@@ -10,32 +10,15 @@ use Rattle.ground.specs.Tests.{Tells}
 use Rattle.ground.proofs.TestLaws.{tells-and, tells-or, tells-not, tells-le, tells-lt, tells-eq}
 use borrow.Author.Tests.{lt-ltb, le-ltb}
 use Rattle.tables.specs.declared.label.Label.{Label}
-use Rattle.tables.specs.Instants.{Now, instantOf, labelOf}
-use Rattle.tables.specs.Rows.{Node, Edge, Ref, numberAt, fromAt, toAt}
-use Rattle.tables.specs.Rules.{
-  root,
-  element,
-  plainAttribute,
-  idAttribute,
-  refAttribute,
-  value,
-  mostLabel,
-  NodeRule,
-  nodeRule,
-  MayHold,
-  mayHold,
-  mayRefer,
-  LabelRule,
-  labelRule,
-  EdgeRule,
-  RefRule,
-  mayJoin,
-  joinRule,
-  badRow,
-}
+use Rattle.tables.specs.Tables.{Now, NodeRow, EdgeRow, RefRow, cellAt}
+use Rattle.tables.specs.Labels.{instantOf, labelOf}
+use Rattle.tables.specs.Rows.{fromAt, toAt}
+use Rattle.tables.specs.Rules.{root, element, plainAttribute, idAttribute, refAttribute, value, mostLabel}
+use Rattle.tables.specs.Rules.{NodeRule, MayHold, LabelRule, EdgeRule, RefRule}
+use Rattle.tables.specs.Tests.{nodeRule, mayHold, mayRefer, labelRule, mayJoin, joinRule, badRow}
 use Rattle.tables.proofs.LabelLaws.{instant-end}
 
-pub node-tells : (i : ℕ) (x : Node) → Tells (nodeRule i x) (NodeRule i x)
+pub node-tells : (i : ℕ) (x : NodeRow) → Tells (nodeRule i x) (NodeRule i x)
 node-tells i x = Iff·trans parts (there, back)
   where
     Root : Type 0
@@ -93,15 +76,15 @@ label-tells start from to =
 
 -- the test of a row of either kind: two nodes of n, of kinds that may be joined, and a label
 join-tells : (refers : Bool) (May : ℕ → ℕ → Type 0) → ((a b : ℕ) → Tells (mayJoin refers a b) (May a b))
-    → (start n : ℕ) (node : ℕ → Node) (a b from to : ℕ)
+    → (start n : ℕ) (node : ℕ → NodeRow) (a b from to : ℕ)
     → Tells (joinRule refers start n node a b from to)
     (((a < n) × (b < n)) × (May (node a .kind) (node b .kind) × LabelRule start from to))
 join-tells refers May may start n node a b from to =
     tells-and _ _ (tells-and _ _ (tells-lt a n) (tells-lt b n))
     (tells-and _ _ (may (node a .kind) (node b .kind)) (label-tells start from to))
 
-module _ (start n : ℕ) (node : ℕ → Node) where
-  pub edge-tells : (e : Edge)
+module _ (start n : ℕ) (node : ℕ → NodeRow) where
+  pub edge-tells : (e : EdgeRow)
       → Tells (joinRule false start n node (e .parent) (e .child) (e .from) (e .to)) (EdgeRule start n node e)
   edge-tells e =
       Iff·trans (join-tells false MayHold holds-tells start n node (e .parent) (e .child) (e .from) (e .to)) (
@@ -109,7 +92,7 @@ module _ (start n : ℕ) (node : ℕ → Node) where
         λ r. ((r .parent, r .child), (r .allowed, r .label)),
       )
 
-  pub ref-tells : (r : Ref)
+  pub ref-tells : (r : RefRow)
       → Tells (joinRule true start n node (r .attribute) (r .target) (r .from) (r .to)) (RefRule start n node r)
   ref-tells r =
       Iff·trans
@@ -121,13 +104,13 @@ module _ (start n : ℕ) (node : ℕ → Node) where
       )
 
 -- the test of row i, by its nodes, its label, and the two answers that it asks for
-module _ (refers : Bool) (start n : ℕ) (node : ℕ → Node) (w : ℕ) (xs : List ℕ) (i : ℕ) where
-  module _ {a : ℕ} (ea : a ≡ numberAt w xs i 0) where
+module _ (refers : Bool) (start n : ℕ) (node : ℕ → NodeRow) (w : ℕ) (xs : List ℕ) (i : ℕ) where
+  module _ {a : ℕ} (ea : a ≡ cellAt w xs i 0) where
     pub first-out : n ≤ a → true ≡ badRow refers start n node w xs i
     unfolding badRow
     first-out h = simp (← ea, le-ltb _ _ h)
 
-    module _ (la : a < n) {b : ℕ} (eb : b ≡ numberAt w xs i 1) where
+    module _ (la : a < n) {b : ℕ} (eb : b ≡ cellAt w xs i 1) where
       pub second-out : n ≤ b → true ≡ badRow refers start n node w xs i
       unfolding badRow
       second-out h = simp (← ea, ← eb, lt-ltb _ _ la, le-ltb _ _ h)

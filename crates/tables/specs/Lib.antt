@@ -1,7 +1,6 @@
-pub mod Instants
-pub mod Rows
 pub mod Tables
-pub mod Sizes
 pub mod Rules
+pub mod Labels
+pub mod Rows
+pub mod Tests
 pub mod Says
-pub mod Gives

@@ -1,24 +1,51 @@
--- The rules of rows, in the document's words, and the test of each. proofs/RuleLaws.antt ties the two.
---   root, element, plainAttribute, idAttribute, refAttribute, value   the kinds
---   mostLabel             the largest label
---   NodeRule, nodeRule    node row i is right; the test. rootRule: its kind is that of its place; valueRule, otherRule:
---                         its label and value are those of kind 5, of the rest
---   MayHold, mayHold      a parent of one kind may hold a child of another; the test. holdsAny: as the root or an
---                         element; holdsValue: as an attribute
---   mayRefer              an attribute of one kind may refer to a target of another: the test
---   LabelRule, labelRule  the label of a row of either kind is right; the test
---   EdgeRule, RefRule     a containment row is right, and a reference row
---   mayJoin, joinRule     the test of both: two nodes that may be joined, and a label
---   badNode, badRow       row i breaks its rule
--- Assumes nothing.
+-- The sizes of tables, the rules of rows, and when each of the codes 1 to 5 is given. Assumes nothing.
 use mathlib.Core.Path.{_≡_}
 use mathlib.Core.Logic.{_≢_, _⊎_}
-use mathlib.Core.Bool.{Bool, true, false, not, _&&_, _||_}
-use mathlib.Core.List.{List}
-use Prim.Native.Nat.{ℕ, _≤_, _<_}
-use lib.Dec.{leb, ltb, eqb}
-use Rattle.tables.specs.Instants.{Now}
-use Rattle.tables.specs.Rows.{Node, Edge, Ref, numberAt, fromAt, toAt}
+use Prim.Native.Nat.{ℕ, _*_, _≤_, _<_}
+use lib.ListN.{length}
+use Rattle.ground.specs.Least.{Smallest}
+use Rattle.answers.specs.declared.Answer.{Answer}
+use Rattle.answers.specs.declared.Answer.the-variants.{Size, Start, Node, Edge, Reference}
+use Rattle.answers.specs.Numbers.{passed}
+use Rattle.tables.specs.Tables.{Now, NodeRow, EdgeRow, RefRow, nodeWidth, edgeWidth, refWidth, Table, Tables}
+use Rattle.tables.specs.Tables.{nodeIn, edgeIn, refIn}
+
+-- [01:Instants and tables] "Sizes: 1 to 1,024 nodes, 0 to 2,048 containment rows, 0 to 1,024 reference rows."
+abbrev pub leastNodes : ℕ
+leastNodes = 1
+
+abbrev pub mostNodes : ℕ
+mostNodes = 1024
+
+abbrev pub mostEdges : ℕ
+mostEdges = 2048
+
+abbrev pub mostRefs : ℕ
+mostRefs = 1024
+
+-- just the numbers of its rows, w each
+abbrev pub Whole : ℕ → Table → Type 0
+Whole w x = length (x .numbers) ≡ x .count * w
+
+-- [01:What the calls answer] SIZE "a table is not whole rows or is out of size"
+pub record SizeRule (w lo hi : ℕ) (x : Table) : Type 0 where
+  pub whole : Whole w x
+  pub least : lo ≤ x .count
+  pub most : x .count ≤ hi
+
+abbrev pub NodesSize : Table → Type 0
+NodesSize = SizeRule nodeWidth leastNodes mostNodes
+
+abbrev pub EdgesSize : Table → Type 0
+EdgesSize = SizeRule edgeWidth 0 mostEdges
+
+abbrev pub RefsSize : Table → Type 0
+RefsSize = SizeRule refWidth 0 mostRefs
+
+pub record Sizes (L : Tables) : Type 0 where
+  pub nodes : NodesSize (L .nodes)
+  pub edges : EdgesSize (L .edges)
+  pub refs : RefsSize (L .refs)
 
 -- [01:Instants and tables] "Kinds: 0 root, 1 element, 2 plain attribute, 3 ID attribute, 4 REF attribute, 5 value."
 abbrev pub root : ℕ
@@ -44,25 +71,13 @@ mostLabel = 65535
 
 -- [01:Instants and tables] "Label is 0 for kind 5 and 1 to 65,535 for the rest. Value is free for kind 5 and 0 for the
 -- rest. Row 0 has kind 0 and no other row has."
-pub record NodeRule (i : ℕ) (x : Node) : Type 0 where
+pub record NodeRule (i : ℕ) (x : NodeRow) : Type 0 where
   pub kind : x .kind ≤ value
   pub value-label : x .kind ≡ value → x .label ≡ 0
   pub other-label : x .kind ≢ value → (1 ≤ x .label) × (x .label ≤ mostLabel)
   pub other-value : x .kind ≢ value → x .value ≡ 0
   pub first : i ≡ 0 → x .kind ≡ root
   pub no-other : i ≢ 0 → x .kind ≢ root
-
-abbrev pub rootRule : ℕ → Node → Bool
-rootRule i x = (eqb i 0 && eqb (x .kind) root) || (not (eqb i 0) && not (eqb (x .kind) root))
-
-abbrev pub valueRule : Node → Bool
-valueRule x = eqb (x .kind) value && eqb (x .label) 0
-
-abbrev pub otherRule : Node → Bool
-otherRule x = ltb (x .kind) value && (leb 1 (x .label) && leb (x .label) mostLabel) && eqb (x .value) 0
-
-abbrev pub nodeRule : ℕ → Node → Bool
-nodeRule i x = rootRule i x && (valueRule x || otherRule x)
 
 -- [01:Instants and tables] "Allowed: parent of kind 0 or 1 with child of kind 1 to 5; parent of kind 2 or 3 with child
 -- of kind 5; nothing else."
@@ -71,60 +86,61 @@ MayHold p c =
     (((p ≡ root) ⊎ (p ≡ element)) × ((element ≤ c) × (c ≤ value)))
     ⊎ (((p ≡ plainAttribute) ⊎ (p ≡ idAttribute)) × (c ≡ value))
 
-abbrev pub holdsAny : ℕ → ℕ → Bool
-holdsAny p c = (eqb p root || eqb p element) && (leb element c && leb c value)
-
-abbrev pub holdsValue : ℕ → ℕ → Bool
-holdsValue p c = (eqb p plainAttribute || eqb p idAttribute) && eqb c value
-
-abbrev pub mayHold : ℕ → ℕ → Bool
-mayHold p c = holdsAny p c || holdsValue p c
-
 -- [01:Instants and tables] "For both row kinds: start ≤ from ≤ to, and from is never Now."
 pub record LabelRule (start from to : ℕ) : Type 0 where
   pub begins : start ≤ from
   pub ends : from ≤ to
   pub not-now : from ≢ Now
 
-abbrev pub labelRule : ℕ → ℕ → ℕ → Bool
-labelRule start from to = leb start from && leb from to && not (eqb from Now)
-
--- [01:Instants and tables] "Containment row, 4 numbers: parent, child, from, to. Both are node numbers." Of n nodes:
--- "003 wants every node reachable, every attribute valued and exactly one edge into each value. We don't: a node with
--- no containment row is allowed and is never present, an attribute of kind 2 or 3 may have any number of values, and a
--- value may have several rows into it like any other node. A parent equal to its child breaks no row rule; it is a
--- cycle." So nothing else is asked of a row.
-pub record EdgeRule (start n : ℕ) (node : ℕ → Node) (e : Edge) : Type 0 where
+-- [01:Instants and tables] "Both are node numbers": of n nodes. "003 wants every node reachable, every attribute valued
+-- and exactly one edge into each value. We don't: a node with no containment row is allowed and is never present, an
+-- attribute of kind 2 or 3 may have any number of values, and a value may have several rows into it like any other
+-- node. A parent equal to its child breaks no row rule; it is a cycle." So nothing else is asked of a row.
+pub record EdgeRule (start n : ℕ) (node : ℕ → NodeRow) (e : EdgeRow) : Type 0 where
   pub parent : e .parent < n
   pub child : e .child < n
   pub allowed : MayHold (node (e .parent) .kind) (node (e .child) .kind)
   pub label : LabelRule start (e .from) (e .to)
 
 -- [01:Instants and tables] "Reference row, 4 numbers: attribute (kind 4), target (kind 1), from, to."
-pub record RefRule (start n : ℕ) (node : ℕ → Node) (r : Ref) : Type 0 where
+pub record RefRule (start n : ℕ) (node : ℕ → NodeRow) (r : RefRow) : Type 0 where
   pub attribute : r .attribute < n
   pub target : r .target < n
   pub attribute-kind : node (r .attribute) .kind ≡ refAttribute
   pub target-kind : node (r .target) .kind ≡ element
   pub label : LabelRule start (r .from) (r .to)
 
-abbrev pub mayRefer : ℕ → ℕ → Bool
-mayRefer a t = eqb a refAttribute && eqb t element
+-- [demand 3] "a start and tables that obey the start, size and row rules". [01:Instants and tables] "The start is a
+-- number lent with the tables, 0 to 4,294,967,294."
+pub record Obeys (L : Tables) : Type 0 where
+  pub sizes : Sizes L
+  pub start-rule : L .start ≢ Now
+  pub node-rule : (i : ℕ) → i < L .nodes .count → NodeRule i (nodeIn L i)
+  pub edge-rule : (i : ℕ) → i < L .edges .count → EdgeRule (L .start) (L .nodes .count) (nodeIn L) (edgeIn L i)
+  pub ref-rule : (k : ℕ) → k < L .refs .count → RefRule (L .start) (L .nodes .count) (nodeIn L) (refIn L k)
 
--- a row of either kind joins the nodes a and b of n: it refers, or it holds
-abbrev pub mayJoin : Bool → ℕ → ℕ → Bool
-mayJoin true = mayRefer
-mayJoin false = mayHold
+module _ (L : Tables) where
+  -- row i breaks its rule
+  abbrev pub BadNode : ℕ → Type 0
+  BadNode i = NodeRule i (nodeIn L i) → ⊥
 
-abbrev pub joinRule : Bool → ℕ → ℕ → (ℕ → Node) → ℕ → ℕ → ℕ → ℕ → Bool
-joinRule refers start n node a b from to =
-    ltb a n && ltb b n && (mayJoin refers (node a .kind) (node b .kind) && labelRule start from to)
+  abbrev pub BadEdge : ℕ → Type 0
+  BadEdge i = EdgeRule (L .start) (L .nodes .count) (nodeIn L) (edgeIn L i) → ⊥
 
--- row i breaks its rule
-unfoldable pub badNode : (ℕ → Node) → ℕ → Bool
-badNode node i = not (nodeRule i (node i))
+  abbrev pub BadRef : ℕ → Type 0
+  BadRef i = RefRule (L .start) (L .nodes .count) (nodeIn L) (refIn L i) → ⊥
 
--- of a table whose rows have w numbers, and refer or hold
-unfoldable pub badRow : Bool → ℕ → ℕ → (ℕ → Node) → ℕ → List ℕ → ℕ → Bool
-badRow refers start n node w xs i =
-    not (joinRule refers start n node (numberAt w xs i 0) (numberAt w xs i 1) (fromAt w xs i) (toAt w xs i))
+  -- [01:What the calls answer] the lines 1 to 5 of the table; "Each is given exactly under its condition, the first in
+  -- the order stated."
+  pub data Gives : Answer → Type 0 where
+    nodes-size : (NodesSize (L .nodes) → ⊥) → Gives (Size 0)
+    edges-size : NodesSize (L .nodes) → (EdgesSize (L .edges) → ⊥) → Gives (Size 1)
+    refs-size : NodesSize (L .nodes) → EdgesSize (L .edges) → (RefsSize (L .refs) → ⊥) → Gives (Size 2)
+    start-now : Sizes L → L .start ≡ Now → Gives Start
+    node : {k : ℕ} → Sizes L → L .start ≢ Now → Smallest BadNode (L .nodes .count) k → Gives (Node k)
+    edge : {k : ℕ} → Sizes L → L .start ≢ Now → ((i : ℕ) → i < L .nodes .count → NodeRule i (nodeIn L i))
+        → Smallest BadEdge (L .edges .count) k → Gives (Edge k)
+    reference : {k : ℕ} → Sizes L → L .start ≢ Now → ((i : ℕ) → i < L .nodes .count → NodeRule i (nodeIn L i))
+        → ((i : ℕ) → i < L .edges .count → EdgeRule (L .start) (L .nodes .count) (nodeIn L) (edgeIn L i))
+        → Smallest BadRef (L .refs .count) k → Gives (Reference k)
+    nothing : Obeys L → Gives passed

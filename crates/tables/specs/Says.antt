@@ -1,24 +1,20 @@
--- What the sizes and the rules of rows answer, computed: codes 1 to 5 in their order, each with the smallest row. And
--- what tables are that none of them refuses.
+-- What the sizes and the rules of rows answer, computed: codes 1 to 5 in their order, each with the smallest row.
+-- proofs/GivesLaws.antt ties it to specs/Rules.antt: it is the one answer that `Gives` allows.
 --   smallest     the answer that names the smallest bad row
 --   sizesSay     1: the sizes
 --   rowsSay      2 to 5: the start, the node rows, the containment rows, the reference rows
 --   historySays  1 to 5
---   Obeys        tables that obey the rules
 -- Assumes nothing.
 use mathlib.Core.Logic.{_≢_}
 use mathlib.Core.Bool.{Bool, true, false, not}
 use Prim.Native.Nat.{ℕ, _<_}
 use lib.Dec.{ltb, eqb}
-use Rattle.ground.specs.Least.{least}
+use Rattle.ground.specs.Searches.{least}
 use Rattle.answers.specs.declared.Answer.{Answer}
 use Rattle.answers.specs.declared.Answer.the-variants.{Size, Start, Node, Edge, Reference}
 use Rattle.answers.specs.Refusals.{when, _⨾_}
-use Rattle.tables.specs.Instants.{Now}
-use Rattle.tables.specs.Rows.{edgeWidth, refWidth}
-use Rattle.tables.specs.Tables.{Table, Tables, nodeIn, edgeIn, refIn}
-use Rattle.tables.specs.Sizes.{Sizes, nodesFit, edgesFit, refsFit}
-use Rattle.tables.specs.Rules.{NodeRule, EdgeRule, RefRule, badNode, badRow}
+use Rattle.tables.specs.Tables.{Now, edgeWidth, refWidth, Table, Tables, nodeIn}
+use Rattle.tables.specs.Tests.{nodesFit, edgesFit, refsFit, badNode, badRow}
 
 -- the answer that names the smallest bad row of n, where there is one
 abbrev pub smallest : (ℕ → Answer) → (ℕ → Bool) → ℕ → Answer
@@ -47,12 +43,3 @@ rowsSay L =
 -- "1 to 4 in order"
 unfoldable pub historySays : Tables → Answer
 historySays L = sizesSay (L .nodes) (L .edges) (L .refs) ⨾ rowsSay L
-
--- [demand 3] "tables that obey the rules". [01:Instants and tables] "The start is a number lent with the tables, 0 to
--- 4,294,967,294."
-pub record Obeys (L : Tables) : Type 0 where
-  pub sizes : Sizes L
-  pub start-rule : L .start ≢ Now
-  pub node-rule : (i : ℕ) → i < L .nodes .count → NodeRule i (nodeIn L i)
-  pub edge-rule : (i : ℕ) → i < L .edges .count → EdgeRule (L .start) (L .nodes .count) (nodeIn L) (edgeIn L i)
-  pub ref-rule : (k : ℕ) → k < L .refs .count → RefRule (L .start) (L .nodes .count) (nodeIn L) (refIn L k)

@@ -1,13 +1,79 @@
--- What is lent to a call: the start, and three tables, each with its count of rows.
---   Table     numbers that were lent, and how many rows they are said to hold; table: of a slice and a count
---   Tables    the start, the nodes, the containment rows and the reference rows
---   lent      these, of slices and counts
---   nodeIn, edgeIn, refIn   row i of a table
--- How a count comes from a slice's length is the public calls' to say, and only SIZE judges it. Assumes nothing.
+-- Instants, rows, and the tables that are lent to a call: numbers, row after row. Assumes nothing.
 use mathlib.Core.List.{List}
-use Prim.Native.Nat.{ℕ}
-use Rattle.tables.specs.Rows.{Node, Edge, Ref, nodeAt, edgeAt, refAt}
+use Prim.Native.Nat.{ℕ, _+_, _*_, _≤_}
+use lib.ListN.{getD}
 
+-- [01:Instants and tables] "An instant is a whole number of seconds, 0 to 4,294,967,295. Instant 0 is 2000-01-01
+-- 00:00:00 with days of 86,400 seconds. The largest instant is called Now; a row ending there is current."
+abbrev pub Now : ℕ
+Now = 4294967295
+
+-- [01:Instants and tables] "A label [from, to] is closed: the row is in force at t when from ≤ t ≤ to."
+abbrev pub During : ℕ → ℕ → ℕ → Type 0
+During from to t = (from ≤ t) × (t ≤ to)
+
+-- [01:Instants and tables] "Node row, 3 numbers: kind, label, value."
+pub record NodeRow : Type 0 where
+  pub kind : ℕ
+  pub label : ℕ
+  pub value : ℕ
+
+-- [01:Instants and tables] "Containment row, 4 numbers: parent, child, from, to."
+pub record EdgeRow : Type 0 where
+  pub parent : ℕ
+  pub child : ℕ
+  pub from : ℕ
+  pub to : ℕ
+
+-- [01:Instants and tables] "Reference row, 4 numbers: attribute (kind 4), target (kind 1), from, to."
+pub record RefRow : Type 0 where
+  pub attribute : ℕ
+  pub target : ℕ
+  pub from : ℕ
+  pub to : ℕ
+
+-- how many numbers a row has
+abbrev pub nodeWidth : ℕ
+nodeWidth = 3
+
+abbrev pub edgeWidth : ℕ
+edgeWidth = 4
+
+abbrev pub refWidth : ℕ
+refWidth = 4
+
+-- [01:What the calls answer] "The root's parent is 4,294,967,295. Referent is .. 4,294,967,295 if there is none."
+abbrev pub noNode : ℕ
+noNode = 4294967295
+
+-- number k of row i, where rows have w numbers
+-- [01:Instants and tables] "Tables are lent as 32-bit numbers. A row's number is its place, from 0."
+abbrev pub cellAt : ℕ → List ℕ → ℕ → ℕ → ℕ
+cellAt w xs i k = getD xs (i * w + k) 0
+
+unfoldable pub nodeAt : List ℕ → ℕ → NodeRow
+nodeAt ns i =
+    record { kind = cellAt nodeWidth ns i 0; label = cellAt nodeWidth ns i 1; value = cellAt nodeWidth ns i 2 }
+
+unfoldable pub edgeAt : List ℕ → ℕ → EdgeRow
+edgeAt es i =
+    record {
+      parent = cellAt edgeWidth es i 0;
+      child = cellAt edgeWidth es i 1;
+      from = cellAt edgeWidth es i 2;
+      to = cellAt edgeWidth es i 3;
+    }
+
+unfoldable pub refAt : List ℕ → ℕ → RefRow
+refAt rs i =
+    record {
+      attribute = cellAt refWidth rs i 0;
+      target = cellAt refWidth rs i 1;
+      from = cellAt refWidth rs i 2;
+      to = cellAt refWidth rs i 3;
+    }
+
+-- numbers that were lent, and how many rows they are said to hold: SIZE judges that
 pub record Table : Type 0 where
   pub numbers : List ℕ
   pub count : ℕ
@@ -24,11 +90,15 @@ table xs m = record { numbers = xs; count = m }
 abbrev pub lent : ℕ → List ℕ → ℕ → List ℕ → ℕ → List ℕ → ℕ → Tables
 lent start ns n es m rs k = record { start = start; nodes = table ns n; edges = table es m; refs = table rs k }
 
-abbrev pub nodeIn : Tables → ℕ → Node
+abbrev pub nodeIn : Tables → ℕ → NodeRow
 nodeIn L = nodeAt (L .nodes .numbers)
 
-abbrev pub edgeIn : Tables → ℕ → Edge
+abbrev pub edgeIn : Tables → ℕ → EdgeRow
 edgeIn L = edgeAt (L .edges .numbers)
 
-abbrev pub refIn : Tables → ℕ → Ref
+abbrev pub refIn : Tables → ℕ → RefRow
 refIn L = refAt (L .refs .numbers)
+
+-- a containment row with another end
+abbrev pub withEnd : EdgeRow → ℕ → EdgeRow
+withEnd e to = record { parent = e .parent; child = e .child; from = e .from; to = to }

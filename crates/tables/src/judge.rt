@@ -1,7 +1,7 @@
 // What the sizes and the rules of rows answer: codes 1 to 5 in their order.
 ghost use mathlib.Core.Path.{_≡_};
 ghost use Rattle.tables.specs.Tables.{lent};
-ghost use Rattle.tables.specs.Sizes.{Sizes};
+ghost use Rattle.tables.specs.Rules.{Sizes};
 ghost use Rattle.tables.specs.Says.{rowsSay, historySays};
 use super::label::NOW;
 use super::rows::EDGE_WIDTH;

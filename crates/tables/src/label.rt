@@ -1,6 +1,6 @@
 // Instants and labels.
 ghost use mathlib.Core.Path.{_≡_};
-ghost use Rattle.tables.specs.Instants.{during, instantOf, endOf, labelOf};
+ghost use Rattle.tables.specs.Labels.{during, instantOf, endOf, labelOf};
 
 // The largest instant. A row that ends there is current.
 pub const NOW: u32 = 4294967295;

@@ -1,9 +1,9 @@
 // The accessors: with specs/Rows.antt all that knows how many numbers a row has.
 ghost use mathlib.Core.Path.{_≡_};
 ghost use Prim.Native.Nat.{_+_, _<_};
-ghost use Rattle.tables.specs.Instants.{during, labelOf};
-ghost use Rattle.tables.specs.Rows.{numberAt, fromAt, toAt, nodeAt, edgeAt, refAt, sideOf, setEnd, setEdge};
-ghost use Rattle.tables.specs.Rows.{HasRows, HasNodes, HasEdges, HasRefs};
+ghost use Rattle.tables.specs.Labels.{during, labelOf};
+ghost use Rattle.tables.specs.Tables.{cellAt, nodeAt, edgeAt, refAt};
+ghost use Rattle.tables.specs.Rows.{fromAt, toAt, sideOf, setEnd, setEdge, HasRows, HasNodes, HasEdges, HasRefs};
 use super::label::Label;
 
 pub const NODE_WIDTH: usize = 3;
@@ -22,9 +22,9 @@ pub enum Side {
 }
 
 // Number k of row i, where rows have `width` numbers.
-pub fn number_at(rows: &[u32], width: usize, i: usize, k: usize) -> u32
+pub fn cell_at(rows: &[u32], width: usize, i: usize, k: usize) -> u32
     requires { ⌜ (k < width) × HasRows width (now rows) (i + 1) ⌝ }
-    ensures { λ r. ⌜ r ≡ numberAt width (now (rows .entry)) i k ⌝ }
+    ensures { λ r. ⌜ r ≡ cellAt width (now (rows .entry)) i k ⌝ }
 {
     rows[i * width + k]
 }
@@ -35,8 +35,8 @@ pub fn label_at(rows: &[u32], width: usize, i: usize) -> Label
     ensures { λ r. ⌜ r ≡ labelOf (fromAt width (now (rows .entry)) i) (toAt width (now (rows .entry)) i) ⌝ }
 {
     Label::of(
-        number_at(rows, width, i, width - 2),
-        number_at(rows, width, i, width - 1),
+        cell_at(rows, width, i, width - 2),
+        cell_at(rows, width, i, width - 1),
     )
 }
 
@@ -44,49 +44,49 @@ pub fn node_kind(nodes: &[u32], i: usize) -> u32
     requires { ⌜ HasNodes (now nodes) (i + 1) ⌝ }
     ensures { λ r. ⌜ r ≡ nodeAt (now (nodes .entry)) i .kind ⌝ }
 {
-    number_at(nodes, NODE_WIDTH, i, 0)
+    cell_at(nodes, NODE_WIDTH, i, 0)
 }
 
 pub fn node_label(nodes: &[u32], i: usize) -> u32
     requires { ⌜ HasNodes (now nodes) (i + 1) ⌝ }
     ensures { λ r. ⌜ r ≡ nodeAt (now (nodes .entry)) i .label ⌝ }
 {
-    number_at(nodes, NODE_WIDTH, i, 1)
+    cell_at(nodes, NODE_WIDTH, i, 1)
 }
 
 pub fn node_value(nodes: &[u32], i: usize) -> u32
     requires { ⌜ HasNodes (now nodes) (i + 1) ⌝ }
     ensures { λ r. ⌜ r ≡ nodeAt (now (nodes .entry)) i .value ⌝ }
 {
-    number_at(nodes, NODE_WIDTH, i, 2)
+    cell_at(nodes, NODE_WIDTH, i, 2)
 }
 
 pub fn edge_parent(edges: &[u32], i: usize) -> u32
     requires { ⌜ HasEdges (now edges) (i + 1) ⌝ }
     ensures { λ r. ⌜ r ≡ edgeAt (now (edges .entry)) i .parent ⌝ }
 {
-    number_at(edges, EDGE_WIDTH, i, 0)
+    cell_at(edges, EDGE_WIDTH, i, 0)
 }
 
 pub fn edge_child(edges: &[u32], i: usize) -> u32
     requires { ⌜ HasEdges (now edges) (i + 1) ⌝ }
     ensures { λ r. ⌜ r ≡ edgeAt (now (edges .entry)) i .child ⌝ }
 {
-    number_at(edges, EDGE_WIDTH, i, 1)
+    cell_at(edges, EDGE_WIDTH, i, 1)
 }
 
 pub fn edge_from(edges: &[u32], i: usize) -> u32
     requires { ⌜ HasEdges (now edges) (i + 1) ⌝ }
     ensures { λ r. ⌜ r ≡ edgeAt (now (edges .entry)) i .from ⌝ }
 {
-    number_at(edges, EDGE_WIDTH, i, 2)
+    cell_at(edges, EDGE_WIDTH, i, 2)
 }
 
 pub fn edge_to(edges: &[u32], i: usize) -> u32
     requires { ⌜ HasEdges (now edges) (i + 1) ⌝ }
     ensures { λ r. ⌜ r ≡ edgeAt (now (edges .entry)) i .to ⌝ }
 {
-    number_at(edges, EDGE_WIDTH, i, 3)
+    cell_at(edges, EDGE_WIDTH, i, 3)
 }
 
 pub fn edge_label(edges: &[u32], i: usize) -> Label
@@ -128,8 +128,8 @@ pub fn ref_side(refs: &[u32], i: usize, side: Side) -> u32
     ensures { λ r. ⌜ r ≡ sideOf side (refAt (now (refs .entry)) i) ⌝ }
 {
     match side {
-        Side::Attribute => number_at(refs, REF_WIDTH, i, 0),
-        Side::Target => number_at(refs, REF_WIDTH, i, 1),
+        Side::Attribute => cell_at(refs, REF_WIDTH, i, 0),
+        Side::Target => cell_at(refs, REF_WIDTH, i, 1),
     }
 }
 

@@ -1,17 +1,18 @@
 // The rules of rows: a test for each kind of row, and a search for the smallest row that breaks its rule.
 ghost use mathlib.Core.Path.{_≡_};
 ghost use Prim.Native.Nat.{_+_, _<_};
-ghost use Rattle.ground.specs.Least.{least};
-ghost use Rattle.tables.specs.Instants.{instantOf};
-ghost use Rattle.tables.specs.Rows.{nodeAt, HasRows, HasNodes};
-ghost use Rattle.tables.specs.Rules.{nodeRule, mayHold, mayRefer, mayJoin, labelRule, badNode, badRow};
+ghost use Rattle.ground.specs.Searches.{least};
+ghost use Rattle.tables.specs.Labels.{instantOf};
+ghost use Rattle.tables.specs.Tables.{nodeAt};
+ghost use Rattle.tables.specs.Rows.{HasRows, HasNodes};
+ghost use Rattle.tables.specs.Tests.{nodeRule, mayHold, mayRefer, mayJoin, labelRule, badNode, badRow};
 use super::label::Label;
 use super::label::NOW;
+use super::rows::cell_at;
 use super::rows::label_at;
 use super::rows::node_kind;
 use super::rows::node_label;
 use super::rows::node_value;
-use super::rows::number_at;
 
 // The kinds of nodes.
 pub const ROOT: u32 = 0;
@@ -98,8 +99,8 @@ fn bad_row(
     requires { ⌜ HasNodes (now nodes) n × (1 < width) × HasRows width (now rows) (i + 1) ⌝ }
     ensures { λ r. ⌜ r ≡ badRow refers start n (nodeAt (now (nodes .entry))) width (now (rows .entry)) i ⌝ }
 {
-    let a = number_at(rows, width, i, 0) as usize;
-    let b = number_at(rows, width, i, 1) as usize;
+    let a = cell_at(rows, width, i, 0) as usize;
+    let b = cell_at(rows, width, i, 1) as usize;
     let label = label_at(rows, width, i);
     if n <= a {
         return true;

@@ -2,7 +2,7 @@
 ghost use mathlib.Core.Path.{_≡_};
 ghost use Prim.Native.Nat.{_<_};
 ghost use Rattle.tables.specs.Tables.{table};
-ghost use Rattle.tables.specs.Sizes.{sizeRule};
+ghost use Rattle.tables.specs.Tests.{sizeRule};
 ghost use Rattle.tables.specs.Says.{sizesSay};
 use super::rows::EDGE_WIDTH;
 use super::rows::NODE_WIDTH;

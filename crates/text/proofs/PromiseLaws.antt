@@ -13,37 +13,15 @@ use Rattle.ground.specs.Lists.{front}
 use Rattle.ground.proofs.TestLaws.{by-test, by-lt}
 use Rattle.answers.specs.declared.Answer.{Answer}
 use Rattle.answers.specs.declared.Answer.the-variants.{Done, Size, Room, Text}
-use Rattle.answers.specs.Numbers.{refuses}
-use Rattle.answers.specs.Refusals.{passed}
-use Rattle.tables.specs.Instants.{Now}
-use Rattle.tables.specs.Rows.{nodeWidth, edgeWidth, refWidth}
-use Rattle.tables.specs.Tables.{Table, Tables}
-use Rattle.tables.specs.Sizes.{Whole, SizeRule, Sizes}
-use Rattle.tables.specs.Gives.{Gives, nodes-size, edges-size, refs-size}
-use Rattle.tables.proofs.GivesLaws.{gives-is}
+use Rattle.answers.specs.Numbers.{refuses, passed}
+use Rattle.tables.specs.Tables.{Now, nodeWidth, edgeWidth, refWidth, Table, Tables}
+use Rattle.tables.specs.Rules.{Whole, SizeRule, Sizes, Gives, nodes-size, edges-size, refs-size}
+use Rattle.tables.proofs.GivesLaws.{gives-is, sizes-pass}
 use Rattle.text.specs.declared.read.Reading.{Reading}
 use Rattle.text.specs.Text.{Small, LendableTable, Lendable, textOf}
-use Rattle.text.specs.Answers.{
-  Written,
-  out-of-size,
-  short,
-  wrote,
-  Accepted,
-  nothing,
-  readingOf,
-  Fits,
-  TooShort,
-  nodes-short,
-  edges-short,
-  refs-short,
-  Read,
-  wrong-text,
-  no-room,
-  took,
-  fronts,
-}
+use Rattle.text.specs.Answers.{Written, out-of-size, short, wrote, Accepted, nothing, readingOf, Fits, TooShort}
+use Rattle.text.specs.Answers.{nodes-short, edges-short, refs-short, Read, wrong-text, no-room, took, fronts}
 use Rattle.text.proofs.RoundTrip.{accepted-unique, accepted-or-not, place-unique}
-use Rattle.tables.proofs.GivesLaws.{sizes-pass}
 use Rattle.text.proofs.WriteLaws.{sizes, written-size}
 use Rattle.text.proofs.ReadLaws.{judged-short, short-or-fits}
 

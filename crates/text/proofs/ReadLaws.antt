@@ -9,10 +9,8 @@ use lib.ListN.{length}
 use borrow.Author.Tests.{lt-ltb, le-ltb}
 use Rattle.answers.specs.declared.Answer.{Answer}
 use Rattle.answers.specs.declared.Answer.the-variants.{Room, Text}
-use Rattle.answers.specs.Numbers.{refuses}
-use Rattle.answers.specs.Refusals.{passed}
-use Rattle.tables.specs.Rows.{nodeWidth, edgeWidth, refWidth}
-use Rattle.tables.specs.Tables.{Tables}
+use Rattle.answers.specs.Numbers.{refuses, passed}
+use Rattle.tables.specs.Tables.{nodeWidth, edgeWidth, refWidth, Tables}
 use Rattle.ground.specs.Lists.{front}
 use Rattle.ground.proofs.ListLaws.{stands-within, sets-front}
 use Rattle.ground.proofs.TestLaws.{by-lt}
@@ -27,20 +25,8 @@ use Rattle.text.specs.declared.forms.Counts.{Counts}
 use Rattle.text.specs.declared.read.Reading.{Reading}
 use Rattle.text.specs.Text.{counted, countsOf, nodeKey, edgeKey, refKey, nodeForm, edgeForm, refForm}
 use Rattle.text.specs.Reads.{headPlan, rowsPlan, whole, readText, roomSays, Announced, Held}
-use Rattle.text.specs.Answers.{
-  Accepted,
-  nothing,
-  readingOf,
-  Fits,
-  TooShort,
-  nodes-short,
-  edges-short,
-  refs-short,
-  Read,
-  wrong-text,
-  no-room,
-  took,
-}
+use Rattle.text.specs.Answers.{Accepted, nothing, readingOf, Fits, TooShort, nodes-short, edges-short, refs-short}
+use Rattle.text.specs.Answers.{Read, wrong-text, no-room, took}
 use Rattle.text.proofs.RoundTrip.{refused, not-of-form, write-of-read}
 use Rattle.text.proofs.ScanLaws.{rows, read-counted, scan-all}
 

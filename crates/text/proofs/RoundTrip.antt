@@ -10,13 +10,11 @@ use lib.Dec.{eqb}
 use lib.ListN.{length, take}
 use lib.Seq.{take-length}
 use borrow.Author.Tests.{eq-eqb, eqb-true}
-use Rattle.ground.specs.Stands.{Stands}
+use Rattle.ground.specs.Lists.{Stands}
 use Rattle.ground.proofs.TestLaws.{by-test}
 use Rattle.ground.proofs.ListLaws.{stands-whole}
-use Rattle.tables.specs.Instants.{Now}
-use Rattle.tables.specs.Rows.{nodeWidth, edgeWidth, refWidth}
-use Rattle.tables.specs.Tables.{Tables}
-use Rattle.tables.specs.Sizes.{leastNodes, mostNodes, mostEdges, mostRefs}
+use Rattle.tables.specs.Tables.{Now, nodeWidth, edgeWidth, refWidth, Tables}
+use Rattle.tables.specs.Rules.{leastNodes, mostNodes, mostEdges, mostRefs}
 use Rattle.lines.specs.Lines.{oneForm, rowForm, joined}
 use Rattle.lines.specs.Reads.{Got, got, wrong, andThen, placeOf}
 use Rattle.lines.specs.Plans.{follow, planAt}

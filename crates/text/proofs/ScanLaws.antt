@@ -19,33 +19,10 @@ use Rattle.lines.proofs.PlanLaws.{follow-at}
 use Rattle.text.specs.declared.forms.Counts.{Counts}
 use Rattle.text.specs.declared.read.Head.{Head}
 use Rattle.text.specs.declared.read.Head.the-variants.{Counted, Misplaced}
-use Rattle.text.specs.Text.{
-  editionKey,
-  startKey,
-  nodesKey,
-  edgesKey,
-  refsKey,
-  nodeKey,
-  edgeKey,
-  refKey,
-  nodeForm,
-  edgeForm,
-  refForm,
-}
-use Rattle.text.specs.Reads.{
-  editionForm,
-  startForm,
-  nodesForm,
-  edgesForm,
-  refsForm,
-  headPlan,
-  rowsPlan,
-  whole,
-  endAt,
-  readText,
-  valueOf,
-  headOf,
-}
+use Rattle.text.specs.Text.{editionKey, startKey, nodesKey, edgesKey, refsKey, nodeKey, edgeKey, refKey, nodeForm}
+use Rattle.text.specs.Text.{edgeForm, refForm}
+use Rattle.text.specs.Reads.{editionForm, startForm, nodesForm, edgesForm, refsForm, headPlan, rowsPlan, whole}
+use Rattle.text.specs.Reads.{endAt, readText, valueOf, headOf}
 use Rattle.text.proofs.RoundTrip.{whole-got}
 
 -- ---- the first five lines, each read from where the one before it ended

@@ -12,26 +12,9 @@ use Rattle.lines.specs.Reads.{wrong}
 use Rattle.lines.proofs.WriteLaws.{one-short, lines-short}
 use Rattle.lines.proofs.PlanLaws.{joined-append, joined-take}
 use Rattle.text.specs.declared.forms.Counts.{Counts}
-use Rattle.text.specs.Text.{
-  Lendable,
-  edition,
-  editionKey,
-  startKey,
-  nodesKey,
-  edgesKey,
-  refsKey,
-  nodeKey,
-  edgeKey,
-  refKey,
-  nodeForm,
-  edgeForm,
-  refForm,
-  countsOf,
-  headLines,
-  rowLines,
-  textLines,
-  textOf,
-}
+use Rattle.text.specs.Text.{Lendable, edition, editionKey, startKey, nodesKey, edgesKey, refsKey, nodeKey}
+use Rattle.text.specs.Text.{edgeKey, refKey, nodeForm, edgeForm, refForm, countsOf, headLines, rowLines}
+use Rattle.text.specs.Text.{textLines, textOf}
 use Rattle.text.specs.Reads.{readText}
 use Rattle.text.specs.Sizes.{headBytes, rowBytes, mostText}
 use Rattle.text.proofs.RoundTrip.{refused}

@@ -8,44 +8,15 @@ use native.Mathlib.Nat.{zero-mul, suc-mul}
 use native.Mathlib.Omega.{arith}
 use lib.ListN.{length, drop, length-drop}
 use lib.Seq.{getD-drop}
-use Rattle.tables.specs.Instants.{Now}
-use Rattle.tables.specs.Rows.{nodeWidth, edgeWidth, refWidth}
-use Rattle.tables.specs.Tables.{Table, Tables}
-use Rattle.tables.specs.Sizes.{leastNodes, mostNodes, mostEdges, mostRefs, Whole}
-use Rattle.lines.specs.Lines.{
-  widthOf,
-  oneForm,
-  rowForm,
-  isEnd,
-  numbersText,
-  oneLine,
-  linesOf,
-  NumberOk,
-  NumbersOk,
-  LinesOk,
-}
+use Rattle.tables.specs.Tables.{Now, nodeWidth, edgeWidth, refWidth, Table, Tables}
+use Rattle.tables.specs.Rules.{leastNodes, mostNodes, mostEdges, mostRefs, Whole}
+use Rattle.lines.specs.Lines.{widthOf, oneForm, rowForm, isEnd, numbersText, oneLine, linesOf, NumberOk, NumbersOk}
+use Rattle.lines.specs.Lines.{LinesOk}
 use Rattle.lines.specs.Plans.{follow, Prints}
 use Rattle.text.specs.declared.forms.Counts.{Counts}
-use Rattle.text.specs.Text.{
-  Small,
-  LendableTable,
-  Lendable,
-  edition,
-  editionKey,
-  startKey,
-  nodesKey,
-  edgesKey,
-  refsKey,
-  nodeKey,
-  edgeKey,
-  refKey,
-  nodeForm,
-  edgeForm,
-  refForm,
-  countsOf,
-  rowLines,
-  textLines,
-}
+use Rattle.text.specs.Text.{Small, LendableTable, Lendable, edition, editionKey, startKey, nodesKey, edgesKey}
+use Rattle.text.specs.Text.{refsKey, nodeKey, edgeKey, refKey, nodeForm, edgeForm, refForm, countsOf, rowLines}
+use Rattle.text.specs.Text.{textLines}
 use Rattle.text.specs.Reads.{only, headPlan, rowsPlan, textPlan}
 
 -- ---- a line of one number

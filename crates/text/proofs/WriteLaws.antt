@@ -13,30 +13,14 @@ use Rattle.answers.specs.declared.Answer.{Answer}
 use Rattle.answers.specs.declared.Answer.the-variants.{Done, Size, TextRoom}
 use Rattle.answers.specs.Numbers.{refuses}
 use Rattle.tables.specs.Tables.{Table, Tables}
-use Rattle.tables.specs.Sizes.{Sizes, nodesFit, edgesFit, refsFit}
-use Rattle.tables.specs.Gives.{Gives}
+use Rattle.tables.specs.Rules.{Sizes, Gives}
+use Rattle.tables.specs.Tests.{nodesFit, edgesFit, refsFit}
 use Rattle.tables.specs.Says.{sizesSay}
 use Rattle.tables.proofs.GivesLaws.{gives-says, sizes-pass, sizes-refuse}
 use Rattle.lines.specs.Lines.{oneLine, joined}
 use Rattle.text.specs.declared.forms.Counts.{Counts}
-use Rattle.text.specs.Text.{
-  edition,
-  editionKey,
-  startKey,
-  nodesKey,
-  edgesKey,
-  refsKey,
-  nodeKey,
-  edgeKey,
-  refKey,
-  nodeForm,
-  edgeForm,
-  refForm,
-  countsOf,
-  headLines,
-  rowLines,
-  textOf,
-}
+use Rattle.text.specs.Text.{edition, editionKey, startKey, nodesKey, edgesKey, refsKey, nodeKey, edgeKey, refKey}
+use Rattle.text.specs.Text.{nodeForm, edgeForm, refForm, countsOf, headLines, rowLines, textOf}
 use Rattle.text.specs.Sizes.{Counted, Fit, RowsFit, headBytes, rowBytes, mostHead, mostRowBytes}
 use Rattle.text.specs.Answers.{Written, out-of-size, short, wrote}
 use Rattle.text.proofs.SizeLaws.{tableText, head-length, rows-text, text-parts, text-length}

@@ -14,11 +14,9 @@ use lib.ListN.{length, take}
 use Rattle.ground.specs.Lists.{front}
 use Rattle.answers.specs.declared.Answer.{Answer}
 use Rattle.answers.specs.declared.Answer.the-variants.{Done, Size, Room, Text, TextRoom}
-use Rattle.answers.specs.Refusals.{passed}
-use Rattle.tables.specs.Rows.{nodeWidth, edgeWidth, refWidth}
-use Rattle.tables.specs.Tables.{Tables, lent}
-use Rattle.tables.specs.Sizes.{Sizes}
-use Rattle.tables.specs.Gives.{Gives}
+use Rattle.answers.specs.Numbers.{passed}
+use Rattle.tables.specs.Tables.{nodeWidth, edgeWidth, refWidth, Tables, lent}
+use Rattle.tables.specs.Rules.{Sizes, Gives}
 use Rattle.text.specs.declared.read.Reading.{Reading}
 use Rattle.text.specs.Text.{Lendable, textOf}
 use Rattle.text.specs.Place.{FirstWrong}

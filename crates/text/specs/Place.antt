@@ -5,7 +5,7 @@
 use mathlib.Core.List.{List}
 use Prim.Native.Nat.{ℕ, _≤_}
 use lib.ListN.{take}
-use Rattle.ground.specs.Stands.{Stands}
+use Rattle.ground.specs.Lists.{Stands}
 use Rattle.lines.specs.Lines.{joined}
 use Rattle.tables.specs.Tables.{Tables}
 use Rattle.text.specs.Text.{Lendable, textLines}

@@ -22,36 +22,22 @@ use lib.Seq.{sets}
 use Rattle.answers.specs.declared.Answer.{Answer}
 use Rattle.answers.specs.declared.Answer.the-variants.{Room}
 use Rattle.answers.specs.Refusals.{when, _⨾_}
-use Rattle.tables.specs.Instants.{Now}
+use Rattle.tables.specs.Tables.{Now, Tables}
 use Rattle.tables.specs.Rows.{HasNodes, HasEdges, HasRefs}
-use Rattle.tables.specs.Tables.{Tables}
-use Rattle.tables.specs.Sizes.{leastNodes, mostNodes, mostEdges, mostRefs}
+use Rattle.tables.specs.Rules.{leastNodes, mostNodes, mostEdges, mostRefs}
 use Rattle.decimals.specs.declared.Num.{Num}
 use Rattle.decimals.specs.declared.Num.the-variants.{Is, Missing}
 use Rattle.lines.specs.declared.form.Form.{Form}
 use Rattle.lines.specs.Lines.{oneForm}
-use Rattle.lines.specs.declared.read.Ended.{Ended}
-use Rattle.lines.specs.declared.read.Ended.the-variants.{At, Wrong}
 use Rattle.lines.specs.Reads.{Got, got, wrong, andThen, isGot}
 use Rattle.lines.specs.Plans.{Plan, stop, lines, follow, planAt}
+use Rattle.lines.specs.declared.read.Ended.{Ended}
+use Rattle.lines.specs.declared.read.Ended.the-variants.{At, Wrong}
 use Rattle.text.specs.declared.forms.Counts.{Counts}
 use Rattle.text.specs.declared.read.Head.{Head}
 use Rattle.text.specs.declared.read.Head.the-variants.{Counted, Misplaced}
-use Rattle.text.specs.Text.{
-  counted,
-  edition,
-  editionKey,
-  startKey,
-  nodesKey,
-  edgesKey,
-  refsKey,
-  nodeKey,
-  edgeKey,
-  refKey,
-  nodeForm,
-  edgeForm,
-  refForm,
-}
+use Rattle.text.specs.Text.{counted, edition, editionKey, startKey, nodesKey, edgesKey, refsKey, nodeKey, edgeKey}
+use Rattle.text.specs.Text.{refKey, nodeForm, edgeForm, refForm}
 
 -- [01:The text] "Counts outside the sizes above make their line wrong."
 abbrev pub editionForm : Form

@@ -11,24 +11,12 @@ use Prim.Native.Nat.{ℕ, _+_, _*_, _≤_}
 use lib.ListN.{length}
 use Rattle.tables.specs.Rows.{HasNodes, HasEdges, HasRefs}
 use Rattle.tables.specs.Tables.{Tables}
-use Rattle.tables.specs.Sizes.{mostNodes, mostEdges, mostRefs}
+use Rattle.tables.specs.Rules.{mostNodes, mostEdges, mostRefs}
 use Rattle.lines.specs.Lines.{oneLine, linesText}
 use Rattle.lines.specs.Sizes.{mostLine}
 use Rattle.text.specs.declared.forms.Counts.{Counts}
-use Rattle.text.specs.Text.{
-  edition,
-  editionKey,
-  startKey,
-  nodesKey,
-  edgesKey,
-  refsKey,
-  nodeKey,
-  edgeKey,
-  refKey,
-  nodeForm,
-  edgeForm,
-  refForm,
-}
+use Rattle.text.specs.Text.{edition, editionKey, startKey, nodesKey, edgesKey, refsKey, nodeKey, edgeKey, refKey}
+use Rattle.text.specs.Text.{nodeForm, edgeForm, refForm}
 
 abbrev pub headBytes : Counts → ℕ
 headBytes c =

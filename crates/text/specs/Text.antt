@@ -14,10 +14,8 @@ use mathlib.Core.Bool.{true, false}
 use mathlib.Core.List.{List, [], _∷_, _++_}
 use Prim.Native.Nat.{ℕ, _≤_}
 use lib.ListN.{getD}
-use Rattle.tables.specs.Instants.{Now}
-use Rattle.tables.specs.Rows.{nodeWidth, edgeWidth, refWidth}
-use Rattle.tables.specs.Tables.{Table, Tables, lent}
-use Rattle.tables.specs.Sizes.{leastNodes, mostNodes, mostEdges, mostRefs, Whole}
+use Rattle.tables.specs.Tables.{Now, nodeWidth, edgeWidth, refWidth, Table, Tables, lent}
+use Rattle.tables.specs.Rules.{leastNodes, mostNodes, mostEdges, mostRefs, Whole}
 use Rattle.lines.specs.declared.form.Form.{Form}
 use Rattle.lines.specs.Lines.{rowForm, oneLine, linesOf, joined}
 use Rattle.text.specs.declared.forms.Counts.{Counts}

@@ -2,11 +2,10 @@
 ghost use mathlib.Core.Path.{_≡_};
 ghost use Prim.Native.Nat.{_*_, _≤_};
 ghost use lib.ListN.{length};
-ghost use Rattle.tables.specs.Rows.{nodeWidth, edgeWidth, refWidth};
+ghost use Rattle.tables.specs.Tables.{nodeWidth, edgeWidth, refWidth};
 ghost use Rattle.lines.specs.Reads.{got, endOf, gotOf, thenEnded};
 ghost use Rattle.lines.specs.Plans.{planAt};
-ghost use Rattle.text.specs.Reads.{headPlan, rowsPlan, valueOf, headOf, whole, endAt};
-ghost use Rattle.text.specs.Reads.{roomSays, Announced, Held};
+ghost use Rattle.text.specs.Reads.{headPlan, rowsPlan, valueOf, headOf, whole, endAt, roomSays, Announced, Held};
 ghost use Rattle.text.specs.Answers.{nothing, readingOf, Read};
 use super::forms::Counts;
 use super::forms::EDGE_FORM;

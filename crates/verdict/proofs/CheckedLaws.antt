@@ -5,15 +5,15 @@ use Rattle.ground.proofs.TestLaws.{by-test}
 use Rattle.answers.specs.declared.Answer.{Answer}
 use Rattle.answers.specs.Numbers.{refuses}
 use Rattle.tables.specs.Tables.{Tables}
-use Rattle.tables.specs.Says.{historySays, Obeys}
-use Rattle.tables.specs.Gives.{Gives}
+use Rattle.tables.specs.Says.{historySays}
+use Rattle.tables.specs.Rules.{Obeys, Gives}
 use Rattle.tables.proofs.GivesLaws.{gives-is, gives-says, obeys-tells}
-use Rattle.history.specs.History.{held}
-use Rattle.history.specs.Verdict.{Verdict}
+use Rattle.history.specs.Faults.{held, Verdict}
 use Rattle.history.proofs.RuledLaws.{obeys-ruled}
 use Rattle.history.proofs.VerdictLaws.{verdict-unique}
 use Rattle.history.proofs.ExistsLaws.{verdict-exists}
-use Rattle.verdict.specs.Checked.{Checked, ruled-out, judged, checkSays}
+use Rattle.verdict.specs.Checked.{Checked, ruled-out, judged}
+use Rattle.verdict.specs.Says.{checkSays}
 
 module _ (L : Tables) where
   -- by the answer of the rules

@@ -6,13 +6,12 @@ use Prim.Native.Nat.{ℕ, _+_, _≤_, _<_}
 use native.Mathlib.Decide.{decLe}
 use native.Mathlib.Omega.{arith}
 use Rattle.answers.specs.declared.Answer.{Answer}
-use Rattle.answers.specs.Numbers.{refuses}
-use Rattle.answers.specs.Refusals.{passed}
+use Rattle.answers.specs.Numbers.{refuses, passed}
 use Rattle.answers.proofs.AnswerLaws.{faulty-refuses}
-use Rattle.tables.specs.Instants.{Now}
-use Rattle.history.specs.History.{History, Ruled}
-use Rattle.history.specs.Faults.{Holds}
-use Rattle.history.specs.Verdict.{Faultless, Verdict, accepted, refused, Names, none, first}
+use Rattle.tables.specs.Tables.{Now}
+use Rattle.history.specs.Faults.{History, Holds, Faultless, Verdict, accepted, refused}
+use Rattle.history.specs.Ruled.{Ruled}
+use Rattle.history.specs.Places.{Names, none, first}
 use Rattle.history.specs.Until.{Until}
 use Rattle.history.specs.Computed.{faultsSay}
 use Rattle.history.proofs.LineLaws.{fault-back, start-faultless}

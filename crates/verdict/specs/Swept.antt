@@ -2,9 +2,8 @@
 --   Swept   it stands at t, and no instant before t has a fault
 -- Assumes nothing.
 use Prim.Native.Nat.{ℕ, _≤_, _<_}
-use Rattle.tables.specs.Instants.{Now}
-use Rattle.history.specs.History.{History}
-use Rattle.history.specs.Verdict.{Faultless}
+use Rattle.tables.specs.Tables.{Now}
+use Rattle.history.specs.Faults.{History, Faultless}
 
 pub record Swept (H : History) (t : ℕ) : Type 0 where
   pub instant : t ≤ Now

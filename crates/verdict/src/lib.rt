@@ -1,14 +1,13 @@
 // The call check: codes 1 to 5, then the earliest fault, found by a sweep over the change instants.
-ghost use Rattle.tables.specs.Rows.{edgeAt};
-ghost use Rattle.tables.specs.Tables.{lent};
-ghost use Rattle.history.specs.History.{historyOf, LentRows};
-ghost use Rattle.history.specs.Verdict.{Verdict};
-ghost use Rattle.faults.specs.Stays.{Bounds};
+ghost use Rattle.tables.specs.Tables.{edgeAt, lent};
+ghost use Rattle.history.specs.Faults.{historyOf, Verdict};
+ghost use Rattle.history.specs.Ruled.{LentRows};
+ghost use Rattle.faults.specs.Spans.{Bounds};
 ghost use Rattle.verdict.specs.Checked.{Checked};
 ghost use Rattle.verdict.specs.Swept.{Swept};
 use answers::Answer;
 use faults::judge::judge;
-use faults::stays::note_rows;
+use faults::spans::note_rows;
 use faults::until::until;
 use tables::judge::judge_history;
 use tables::label::NOW;

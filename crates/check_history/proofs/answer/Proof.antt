@@ -4,7 +4,7 @@ use Prim.Native.Nat.{_*_, _≤_}
 use lib.ListN.{length}
 use lib.Seq.{length-take-le}
 use Rattle.answers.specs.Numbers.{refuses}
-use Rattle.tables.specs.Rows.{nodeWidth, edgeWidth, refWidth}
+use Rattle.tables.specs.Tables.{nodeWidth, edgeWidth, refWidth}
 use borrow.Author.Needs.{needs}
 use Rattle.check_history.proofs.SaysLaws.{unread-says, read-fits, read-says}
 use Rattle.check_history.proofs.answer.Statement.{statement}

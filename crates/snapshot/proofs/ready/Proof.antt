@@ -3,7 +3,7 @@ use native.Mathlib.Omega.{arith}
 use mathlib.Core.Path.{refl, sym, ap, _∙_}
 use Rattle.answers.specs.Numbers.{refuses}
 use Rattle.tables.specs.Tables.{Tables, lent}
-use Rattle.tables.specs.Says.{Obeys}
+use Rattle.tables.specs.Rules.{Obeys}
 use Rattle.tables.proofs.GivesLaws.{obeys-tells}
 use Rattle.history.proofs.RuledLaws.{obeys-ruled, obeys-lent}
 use Rattle.snapshot.specs.Ready.{refused, early}

@@ -4,7 +4,7 @@ use mathlib.Core.Path.{_≡_, sym, _∙_}
 use mathlib.Core.Bool.{false}
 use Prim.Native.Nat.{_+_, _≤_}
 use Rattle.answers.specs.Numbers.{refuses}
-use Rattle.tables.specs.Sizes.{mostNodes}
+use Rattle.tables.specs.Rules.{mostNodes}
 use Rattle.faults.proofs.SlotLaws.{fresh}
 use Rattle.snapshot.proofs.ReadyLaws.{ready-few}
 use Rattle.snapshot.proofs.AnswersLaws.{on-unready, on-short, rows-showable, on-rows}

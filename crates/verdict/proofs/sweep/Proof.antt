@@ -1,7 +1,7 @@
 use mathlib.Core.Path.{refl}
-use Rattle.tables.specs.Sizes.{mostNodes}
+use Rattle.tables.specs.Rules.{mostNodes}
 use Rattle.faults.proofs.SlotLaws.{lent-fit}
-use Rattle.faults.proofs.StayLaws.{stays-none}
+use Rattle.faults.proofs.SpanLaws.{spans-none}
 use Rattle.verdict.proofs.SweepLaws.{sweep-starts}
 use borrow.Author.Needs.{needs}
 use Rattle.verdict.proofs.sweep.Statement.{statement}
@@ -18,7 +18,7 @@ note-rows-requires c κs =
     record {
       fit = lent-fit (c .before .before .before .before .pre) mostNodes (search needs);
       same = refl;
-      stays = stays-none _ mostNodes;
+      spans = spans-none _ mostNodes;
     }
 
 slice-aggregate-sweep-from : tie.Need-slice-aggregate-sweep-from

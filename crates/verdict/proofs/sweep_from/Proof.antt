@@ -1,8 +1,8 @@
 use borrow.Author.Needs.{needs}
 use native.Mathlib.Omega.{arith}
 use Prim.Native.Nat.{_-_}
-use Rattle.tables.specs.Instants.{Now}
-use Rattle.history.specs.History.{historyOf}
+use Rattle.tables.specs.Tables.{Now}
+use Rattle.history.specs.Faults.{historyOf}
 use Rattle.verdict.specs.Swept.{Swept}
 use Rattle.verdict.proofs.SweepLaws.{sweep-found, sweep-later, sweep-on, sweep-done}
 use Rattle.verdict.proofs.sweep_from.Statement.{statement}

@@ -4,10 +4,10 @@ use denote.Ref.{now}
 use borrow.Author.Needs.{needs}
 use Rattle.answers.specs.declared.Kind.{Kind}
 use Rattle.answers.specs.declared.Answer.{Answer}
-use Rattle.answers.specs.Numbers.{afterGap}
+use Rattle.answers.specs.Refusals.{afterGap}
 use Rattle.faults.specs.Judged.{Rest}
-use Rattle.faults.proofs.JudgeLaws.{outside-found, cycle-found, late-found, dangling-found}
-use Rattle.faults.proofs.JudgeLaws.{rest-found, rest-on, rest-none}
+use Rattle.faults.proofs.JudgeLaws.{outside-found, cycle-found, late-found, dangling-found, rest-found, rest-on}
+use Rattle.faults.proofs.JudgeLaws.{rest-none}
 use Rattle.faults.proofs.judge.after_gap.Statement.{statement}
 use Rattle.faults.proofs.judge.after_gap.Tie as tie
 

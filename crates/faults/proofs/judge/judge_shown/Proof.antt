@@ -4,12 +4,12 @@ use Prim.Native.Nat.{ℕ}
 use lib.ListN.{drop}
 use denote.Ref.{now}
 use borrow.Author.Needs.{needs}
-use Rattle.ground.specs.Least.{least}
+use Rattle.ground.specs.Searches.{least}
 use Rattle.answers.specs.declared.Answer.{Answer}
 use Rattle.answers.specs.declared.Kind.the-variants.{Overlap}
-use Rattle.answers.specs.Numbers.{shownKinds}
-use Rattle.history.specs.History.{History, historyOf}
-use Rattle.history.specs.Faults.{places}
+use Rattle.answers.specs.Refusals.{shownKinds}
+use Rattle.history.specs.Faults.{History, historyOf}
+use Rattle.history.specs.Places.{places}
 use Rattle.history.specs.Computed.{holds, say}
 use Rattle.history.proofs.SayLaws.{say-found, say-on}
 use Rattle.faults.specs.Judged.{Seen, Clear}

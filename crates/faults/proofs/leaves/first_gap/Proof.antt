@@ -1,6 +1,7 @@
 use borrow.Author.Needs.{needs}
 use Prim.Native.Nat.{_≤_, _-_}
-use Rattle.ground.specs.Least.{Before, Passes}
+use Rattle.ground.specs.Least.{Before}
+use Rattle.ground.specs.Searches.{Passes}
 use Rattle.ground.proofs.LeastLaws.{search-none, search-more, search-found, search-missed}
 use Rattle.faults.specs.Leaves.{isGap}
 use Rattle.faults.proofs.leaves.first_gap.Statement.{statement}

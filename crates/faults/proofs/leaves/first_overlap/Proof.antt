@@ -1,7 +1,8 @@
 use borrow.Author.Needs.{needs}
 use Prim.Native.Nat.{_≤_, _-_}
 use borrow.Author.Tests.{eq-eqb, ne-eqb}
-use Rattle.ground.specs.Least.{Before, Passes}
+use Rattle.ground.specs.Least.{Before}
+use Rattle.ground.specs.Searches.{Passes}
 use Rattle.ground.proofs.LeastLaws.{search-none, search-more, search-found, search-missed}
 use Rattle.faults.specs.Leaves.{isMany}
 use Rattle.faults.proofs.leaves.first_overlap.Statement.{statement}

@@ -1,9 +1,10 @@
 use borrow.Author.Needs.{needs}
 use native.Mathlib.Omega.{arith}
 use Prim.Native.Nat.{_≤_, _-_}
-use Rattle.ground.specs.Least.{Before, Passes}
+use Rattle.ground.specs.Least.{Before}
+use Rattle.ground.specs.Searches.{Passes}
 use Rattle.ground.proofs.LeastLaws.{search-none, search-more, search-found, search-missed}
-use Rattle.tables.specs.Rows.{refAt}
+use Rattle.tables.specs.Tables.{refAt}
 use Rattle.faults.specs.Leaves.{isStray}
 use Rattle.faults.proofs.leaves.first_stray.Statement.{statement}
 use Rattle.faults.proofs.leaves.first_stray.Tie as tie

@@ -4,7 +4,7 @@ use native.Mathlib.Omega.{arith}
 use Prim.Native.Nat.{_≤_, _-_}
 use mathlib.Core.Path.{_≡_}
 use lib.ListN.{length}
-use Rattle.tables.specs.Rows.{edgeAt}
+use Rattle.tables.specs.Tables.{edgeAt}
 use Rattle.faults.specs.Slots.{Slots}
 use Rattle.faults.proofs.slots.take_rows.Statement.{statement}
 use Rattle.faults.proofs.slots.take_rows.Tie as tie

@@ -1,4 +1,4 @@
-use Rattle.tables.specs.Rows.{edgeAt, refAt}
+use Rattle.tables.specs.Tables.{edgeAt, refAt}
 use Rattle.history.proofs.UntilLaws.{until-both}
 use borrow.Author.Needs.{needs}
 use Rattle.faults.proofs.until.until.Statement.{statement}

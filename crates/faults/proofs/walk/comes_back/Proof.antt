@@ -1,8 +1,8 @@
 use borrow.Author.Needs.{needs}
 use native.Mathlib.Omega.{arith}
 use Prim.Native.Nat.{_-_}
-use Rattle.faults.proofs.WalkLaws.{means-true, means-false, Climbing}
-use Rattle.faults.proofs.WalkLaws.{climbing-starts, climbing-on, climbing-back, climbing-left, climbing-ends}
+use Rattle.faults.proofs.WalkLaws.{means-true, means-false, Climbing, climbing-starts, climbing-on}
+use Rattle.faults.proofs.WalkLaws.{climbing-back, climbing-left, climbing-ends}
 use Rattle.faults.proofs.walk.comes_back.Statement.{statement}
 use Rattle.faults.proofs.walk.comes_back.Tie as tie
 

@@ -2,16 +2,8 @@ use borrow.Author.Needs.{needs}
 use native.Mathlib.Omega.{arith}
 use mathlib.Core.Path.{refl}
 use Rattle.faults.proofs.WalkLaws.{means-true, means-false}
-use Rattle.faults.proofs.MarkLaws.{
-  Stamping,
-  zeros,
-  zeros-set,
-  walk-starts,
-  walk-steps,
-  walk-meets,
-  walk-ends,
-  ends-here,
-}
+use Rattle.faults.proofs.MarkLaws.{Stamping, zeros, zeros-set, walk-starts, walk-steps, walk-meets, walk-ends}
+use Rattle.faults.proofs.MarkLaws.{ends-here}
 use Rattle.faults.proofs.walk.walk.Statement.{statement}
 use Rattle.faults.proofs.walk.walk.Tie as tie
 

@@ -1,11 +1,5 @@
-use Rattle.lines.proofs.FillLaws.{
-  FillingLines,
-  fill-lines-start,
-  row-room,
-  fill-line-ready,
-  fill-line,
-  fill-lines-done,
-}
+use Rattle.lines.proofs.FillLaws.{FillingLines, fill-lines-start, row-room, fill-line-ready, fill-line}
+use Rattle.lines.proofs.FillLaws.{fill-lines-done}
 use borrow.Author.Needs.{needs}
 use native.Mathlib.Omega.{arith}
 use Rattle.lines.proofs.read.fill_lines.Statement.{statement}

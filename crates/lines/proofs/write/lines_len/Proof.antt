@@ -1,12 +1,5 @@
-use Rattle.lines.proofs.WriteLaws.{
-  CountingLines,
-  count-row,
-  count-ready,
-  count-small,
-  count-fits,
-  count-line,
-  count-lines-done,
-}
+use Rattle.lines.proofs.WriteLaws.{CountingLines, count-row, count-ready, count-small, count-fits, count-line}
+use Rattle.lines.proofs.WriteLaws.{count-lines-done}
 use borrow.Author.Needs.{needs}
 use native.Mathlib.Omega.{arith}
 use Rattle.lines.proofs.write.lines_len.Statement.{statement}

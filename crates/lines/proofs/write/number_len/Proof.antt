@@ -3,7 +3,7 @@ use mathlib.Core.List.{List}
 use mathlib.Core.Path.{_≡_, refl, ap}
 use Prim.Native.Nat.{ℕ, _≤_}
 use lib.ListN.{length}
-use Rattle.tables.specs.Instants.{Now}
+use Rattle.tables.specs.Tables.{Now}
 use Rattle.lines.specs.Lines.{numberText}
 use Rattle.lines.specs.Sizes.{mostNumber, Long}
 use Rattle.lines.proofs.WriteLaws.{number-short, number-word, number-finite}

@@ -1,7 +1,7 @@
 use denote.Ref.{now}
 use lib.ListN.{length-append}
 use mathlib.Core.List.{[], _∷_}
-use Rattle.tables.specs.Instants.{Now}
+use Rattle.tables.specs.Tables.{Now}
 use Rattle.lines.specs.Lines.{oneForm, numbersText}
 use borrow.Author.Needs.{needs}
 use native.Mathlib.Omega.{arith}

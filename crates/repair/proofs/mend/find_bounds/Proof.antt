@@ -3,7 +3,7 @@ use native.Mathlib.Omega.{arith}
 use Prim.Native.Nat.{_≤_, _-_}
 use mathlib.Core.Path.{_≡_, _∙_}
 use mathlib.Core.Logic.{⊎-elim}
-use Rattle.tables.specs.Rows.{edgeAt}
+use Rattle.tables.specs.Tables.{edgeAt}
 use Rattle.repair.specs.Steps.{Bounded}
 use Rattle.repair.proofs.EndLaws.{bounded-none, bounded-hit, bounded-miss}
 use Rattle.repair.proofs.mend.find_bounds.Statement.{statement}

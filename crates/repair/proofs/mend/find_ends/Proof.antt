@@ -4,7 +4,7 @@ use Prim.Native.Nat.{ℕ, _≤_, _-_}
 use mathlib.Core.Path.{_≡_}
 use mathlib.Core.List.{List}
 use lib.ListN.{length}
-use Rattle.tables.specs.Rows.{edgeAt}
+use Rattle.tables.specs.Tables.{edgeAt}
 use Rattle.repair.specs.Ends.{newEnd}
 use Rattle.repair.specs.Steps.{Found}
 use Rattle.repair.proofs.StepLaws.{found-none, found-more}

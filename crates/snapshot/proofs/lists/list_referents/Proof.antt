@@ -7,8 +7,8 @@ use mathlib.Core.Bool.{Bool}
 use mathlib.Core.List.{List}
 use Prim.Native.Nat.{ℕ, _≤_, _<_, _-_}
 use lib.ListN.{length}
-use Rattle.tables.specs.Instants.{during}
-use Rattle.tables.specs.Rows.{noNode, Ref, refAt}
+use Rattle.tables.specs.Labels.{during}
+use Rattle.tables.specs.Tables.{noNode, RefRow, refAt}
 use Rattle.snapshot.specs.Snapshot.{referentAt}
 use Rattle.snapshot.specs.Lists.{Lists}
 use Rattle.snapshot.proofs.ValueLaws.{list-start, list-skip, list-put}
@@ -34,7 +34,7 @@ abbrev entry : tie.At-loop Inv-loop μ-loop → tie.Start Inv-loop μ-loop
 entry l = l .before .before .before
 
 -- the rows, and which of them are in force
-abbrev row : tie.Start Inv-loop μ-loop → ℕ → Ref
+abbrev row : tie.Start Inv-loop μ-loop → ℕ → RefRow
 row s = refAt (s .args .refs .now)
 
 abbrev force : tie.Start Inv-loop μ-loop → ℕ → Bool

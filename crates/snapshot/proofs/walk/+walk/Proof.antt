@@ -11,16 +11,8 @@ use lib.ListN.{length, getD, length-drop}
 use Rattle.snapshot.specs.Walk.{Place, subtree, rowWidth}
 use Rattle.snapshot.specs.Lists.{follow, kidsOf}
 use Rattle.snapshot.proofs.WalkLaws.{peel}
-use Rattle.snapshot.proofs.PartLaws.{
-  Part,
-  part-start,
-  part-none,
-  part-long,
-  part-room,
-  part-fill,
-  part-end,
-  part-all,
-}
+use Rattle.snapshot.proofs.PartLaws.{Part, part-start, part-none, part-long, part-room, part-fill, part-end}
+use Rattle.snapshot.proofs.PartLaws.{part-all}
 use Rattle.snapshot.proofs.LinkLaws.{follow-stop}
 use Rattle.snapshot.proofs.walk.walk.Reads as walk
 use Rattle.snapshot.proofs.walk.walk.Kinds as walk-kinds

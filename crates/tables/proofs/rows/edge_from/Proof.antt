@@ -1,14 +1,14 @@
-use Rattle.tables.specs.Rows.{edgeAt}
+use Rattle.tables.specs.Tables.{edgeAt}
 use borrow.Author.Needs.{needs}
 use Rattle.tables.proofs.rows.edge_from.Statement.{statement}
 use Rattle.tables.proofs.rows.edge_from.Tie as tie
 
-number-at-requires : tie.Need-number-at-requires
-number-at-requires c κs = search needs
+cell-at-requires : tie.Need-cell-at-requires
+cell-at-requires c κs = search needs
 
 returns : tie.Need-returns
 unfolding edgeAt
-returns c = c .number-at .ensures
+returns c = c .cell-at .ensures
 
 pub edge-from-spec : {M : Type 1} → statement M
-edge-from-spec = tie.close (tie.spec number-at-requires returns)
+edge-from-spec = tie.close (tie.spec cell-at-requires returns)

@@ -1,4 +1,4 @@
-use Rattle.tables.specs.Rows.{edgeAt}
+use Rattle.tables.specs.Tables.{edgeAt}
 use borrow.Author.Needs.{needs}
 use Rattle.tables.proofs.rows.edge_label.Statement.{statement}
 use Rattle.tables.proofs.rows.edge_label.Tie as tie

@@ -2,17 +2,17 @@ use borrow.Author.Needs.{needs}
 use Rattle.tables.proofs.rows.label_at.Statement.{statement}
 use Rattle.tables.proofs.rows.label_at.Tie as tie
 
-sub-number-at : tie.Need-sub-number-at
-sub-number-at c = search needs
+sub-cell-at : tie.Need-sub-cell-at
+sub-cell-at c = search needs
 
-number-at-requires : tie.Need-number-at-requires
-number-at-requires c κs = search needs
+cell-at-requires : tie.Need-cell-at-requires
+cell-at-requires c κs = search needs
 
-sub-number-at-2 : tie.Need-sub-number-at-2
-sub-number-at-2 c = search needs
+sub-cell-at-2 : tie.Need-sub-cell-at-2
+sub-cell-at-2 c = search needs
 
-number-at-requires-2 : tie.Need-number-at-requires-2
-number-at-requires-2 c κs = search needs
+cell-at-requires-2 : tie.Need-cell-at-requires-2
+cell-at-requires-2 c κs = search needs
 
 of-requires : tie.Need-of-requires
 of-requires c κs = search needs
@@ -24,9 +24,9 @@ pub label-at-spec : {M : Type 1} → statement M
 label-at-spec =
     tie.close
     (tie.spec
-    sub-number-at
-    number-at-requires
-    sub-number-at-2
-    number-at-requires-2
+    sub-cell-at
+    cell-at-requires
+    sub-cell-at-2
+    cell-at-requires-2
     of-requires
     returns)

@@ -1,14 +1,14 @@
-use Rattle.tables.specs.Rows.{nodeAt}
+use Rattle.tables.specs.Tables.{nodeAt}
 use borrow.Author.Needs.{needs}
 use Rattle.tables.proofs.rows.node_label.Statement.{statement}
 use Rattle.tables.proofs.rows.node_label.Tie as tie
 
-number-at-requires : tie.Need-number-at-requires
-number-at-requires c κs = search needs
+cell-at-requires : tie.Need-cell-at-requires
+cell-at-requires c κs = search needs
 
 returns : tie.Need-returns
 unfolding nodeAt
-returns c = c .number-at .ensures
+returns c = c .cell-at .ensures
 
 pub node-label-spec : {M : Type 1} → statement M
-node-label-spec = tie.close (tie.spec number-at-requires returns)
+node-label-spec = tie.close (tie.spec cell-at-requires returns)

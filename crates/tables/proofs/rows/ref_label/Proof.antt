@@ -1,4 +1,4 @@
-use Rattle.tables.specs.Rows.{refAt}
+use Rattle.tables.specs.Tables.{refAt}
 use borrow.Author.Needs.{needs}
 use Rattle.tables.proofs.rows.ref_label.Statement.{statement}
 use Rattle.tables.proofs.rows.ref_label.Tie as tie

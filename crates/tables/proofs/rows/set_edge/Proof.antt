@@ -6,7 +6,8 @@ use native.Mathlib.Numerals.{add-one}
 use native.Mathlib.Omega.{arith}
 use lib.ListN.{set, length-set}
 use lib.Seq.{sets}
-use Rattle.tables.specs.Rows.{edgeWidth, setRow}
+use Rattle.tables.specs.Tables.{edgeWidth}
+use Rattle.tables.specs.Rows.{setRow}
 use Rattle.tables.proofs.rows.set_edge.Statement.{statement}
 use Rattle.tables.proofs.rows.set_edge.Tie as tie
 

@@ -1,4 +1,4 @@
-use Rattle.tables.specs.Rules.{badNode}
+use Rattle.tables.specs.Tests.{badNode}
 use borrow.Author.Needs.{needs}
 use Rattle.tables.proofs.rules.bad_node.Statement.{statement}
 use Rattle.tables.proofs.rules.bad_node.Tie as tie

@@ -1,10 +1,11 @@
 use borrow.Author.Needs.{needs}
 use Prim.Native.Nat.{_≤_, _-_}
 use mathlib.Core.Path.{_∙_, sym}
-use Rattle.ground.specs.Least.{Before, Passes}
+use Rattle.ground.specs.Least.{Before}
+use Rattle.ground.specs.Searches.{Passes}
 use Rattle.ground.proofs.LeastLaws.{search-none, search-more, search-found, search-missed}
-use Rattle.tables.specs.Rows.{nodeAt}
-use Rattle.tables.specs.Rules.{badNode}
+use Rattle.tables.specs.Tables.{nodeAt}
+use Rattle.tables.specs.Tests.{badNode}
 use Rattle.tables.proofs.rules.first_bad_node.Statement.{statement}
 use Rattle.tables.proofs.rules.first_bad_node.Tie as tie
 

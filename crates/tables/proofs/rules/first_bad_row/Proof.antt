@@ -3,10 +3,11 @@ use Prim.Native.Nat.{_≤_, _-_, suc}
 use native.Mathlib.Nat.{mul-le-mul-right}
 use native.Mathlib.Omega.{arith}
 use mathlib.Core.Path.{_∙_, sym}
-use Rattle.ground.specs.Least.{Before, Passes}
+use Rattle.ground.specs.Least.{Before}
+use Rattle.ground.specs.Searches.{Passes}
 use Rattle.ground.proofs.LeastLaws.{search-none, search-more, search-found, search-missed}
-use Rattle.tables.specs.Rows.{nodeAt}
-use Rattle.tables.specs.Rules.{badRow}
+use Rattle.tables.specs.Tables.{nodeAt}
+use Rattle.tables.specs.Tests.{badRow}
 use Rattle.tables.proofs.rules.first_bad_row.Statement.{statement}
 use Rattle.tables.proofs.rules.first_bad_row.Tie as tie
 

@@ -1,4 +1,4 @@
-use Rattle.tables.specs.Sizes.{sizeRule}
+use Rattle.tables.specs.Tests.{sizeRule}
 use borrow.Author.Needs.{needs}
 use Rattle.tables.proofs.sizes.size_rule.Statement.{statement}
 use Rattle.tables.proofs.sizes.size_rule.Tie as tie

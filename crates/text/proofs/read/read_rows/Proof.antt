@@ -1,16 +1,8 @@
 use mathlib.Core.Path.{sym, _∙_}
 use denote.Ref.{now}
 use Rattle.text.proofs.SizeLaws.{place-short}
-use Rattle.text.proofs.ReadLaws.{
-  head-within,
-  text-wrong,
-  TextRight,
-  text-right,
-  read-wrong,
-  room-short,
-  room-announced,
-  room-taken,
-}
+use Rattle.text.proofs.ReadLaws.{head-within, text-wrong, TextRight, text-right, read-wrong, room-short}
+use Rattle.text.proofs.ReadLaws.{room-announced, room-taken}
 use borrow.Author.Needs.{needs}
 use native.Mathlib.Omega.{arith}
 use Rattle.text.proofs.read.read_rows.Statement.{statement}

@@ -1,5 +1,5 @@
 use borrow.Author.Tests.{eq-eqb, ne-eqb}
-use Rattle.tables.specs.Instants.{endOf}
+use Rattle.tables.specs.Labels.{endOf}
 use Rattle.tables.proofs.label.End.of.Statement.{statement}
 use Rattle.tables.proofs.label.End.of.Tie as tie
 

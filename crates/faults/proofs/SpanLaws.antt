@@ -10,20 +10,20 @@ use lib.ListN.{length, getD, set, replicate, length-set, getD-replicate, length-
 use lib.Seq.{getD-set-same, getD-set-other}
 use Rattle.ground.specs.Least.{Any}
 use Rattle.tables.specs.declared.label.Label.{Label}
-use Rattle.tables.specs.Instants.{Now, instantOf, labelOf}
+use Rattle.tables.specs.Tables.{Now, EdgeRow, edgeAt}
+use Rattle.tables.specs.Labels.{instantOf, labelOf}
 use Rattle.tables.proofs.LabelLaws.{instant-end}
-use Rattle.tables.specs.Rows.{Edge, edgeAt}
-use Rattle.faults.specs.Stays.{Stay, Stays, Noting, Bare}
+use Rattle.faults.specs.Spans.{Span, Spans, Noting, Bare}
 
-module _ (E : ℕ → Edge) (c i first last : ℕ) where
+module _ (E : ℕ → EdgeRow) (c i first last : ℕ) where
   last-or : (k : ℕ) → k < i + 1 → (k ≡ i) ⊎ (k < i)
   last-or k h = eq-or-lt-of-le (omega arith)
 
   wider : (P : ℕ → Type 0) → Any P i → Any P (i + 1)
   wider P (j, h, x) = (j, omega arith, x)
 
-  pub stay-skip : (E i .child ≡ c → ⊥) → Stay E c i first last → Stay E c (i + 1) first last
-  stay-skip f s =
+  pub span-skip : (E i .child ≡ c → ⊥) → Span E c i first last → Span E c (i + 1) first last
+  span-skip f s =
       record {
         none-sooner =
             λ j h e. ⊎-elim (λ q. absurd (f (subst (λ x. E x .child ≡ c) q e))) (λ l. s .none-sooner j l e)
@@ -35,8 +35,8 @@ module _ (E : ℕ → Edge) (c i first last : ℕ) where
         ends = ⊎-elim inl (λ x. inr (wider _ x)) (s .ends);
       }
 
-  pub stay-take : E i .child ≡ c → Stay E c i first last → Stay E c (i + 1) (min first (E i .from)) (max last (E i .to))
-  stay-take e s =
+  pub span-take : E i .child ≡ c → Span E c i first last → Span E c (i + 1) (min first (E i .from)) (max last (E i .to))
+  span-take e s =
       record {
         none-sooner =
             λ j h q. ⊎-elim (λ z. rw z (omega arith)) (λ l. omega (arith, s .none-sooner j l q)) (last-or j h);
@@ -58,27 +58,27 @@ module _ (E : ℕ → Edge) (c i first last : ℕ) where
       latest (no l) = inr (i, omega arith, (e, omega arith))
 
 -- both bounds of row i's child are stored anew
-pub stays-set : (E : ℕ → Edge) (i : ℕ) (first last : List ℕ) {v w : ℕ} → length first ≡ length last
+pub spans-set : (E : ℕ → EdgeRow) (i : ℕ) (first last : List ℕ) {v w : ℕ} → length first ≡ length last
     → E i .child < length first
     → v ≡ min (getD first (E i .child) 0) (E i .from) → w ≡ max (getD last (E i .child) 0) (E i .to)
-    → Stays E i first last → Stays E (i + 1) (set first (E i .child) v) (set last (E i .child) w)
-stays-set E i first last {v} {w} same l ev ew s c h = go (ℕ-discrete c (E i .child))
+    → Spans E i first last → Spans E (i + 1) (set first (E i .child) v) (set last (E i .child) w)
+spans-set E i first last {v} {w} same l ev ew s c h = go (ℕ-discrete c (E i .child))
   where
     inside : c < length first
     inside = omega (arith, length-set first (E i .child) v)
 
     go : Dec (c ≡ E i .child)
-        → Stay E c (i + 1) (getD (set first (E i .child) v) c 0) (getD (set last (E i .child) w) c 0)
+        → Span E c (i + 1) (getD (set first (E i .child) v) c 0) (getD (set last (E i .child) w) c 0)
     go (yes e) =
         rw (e, getD-set-same first (E i .child) v 0 l, getD-set-same last (E i .child) w 0 (omega arith), ev, ew)
-        (stay-take E (E i .child) i (getD first (E i .child) 0) (getD last (E i .child) 0) refl (s (E i .child) l))
+        (span-take E (E i .child) i (getD first (E i .child) 0) (getD last (E i .child) 0) refl (s (E i .child) l))
     go (no e) =
         rw (getD-set-other first (E i .child) c v 0 e, getD-set-other last (E i .child) c w 0 e)
-        (stay-skip E c i (getD first c 0) (getD last c 0) (λ q. e (sym q)) (s c inside))
+        (span-skip E c i (getD first c 0) (getD last c 0) (λ q. e (sym q)) (s c inside))
 
 -- bounds that no row has changed
-pub stays-none : (E : ℕ → Edge) (n : ℕ) → Stays E 0 (replicate n Now) (replicate n 0)
-stays-none E n c h =
+pub spans-none : (E : ℕ → EdgeRow) (n : ℕ) → Spans E 0 (replicate n Now) (replicate n 0)
+spans-none E n c h =
     record {
       none-sooner = λ j l. absurd (omega arith);
       starts = inl (getD-replicate n c Now 0 (omega (arith, length-replicate n Now)));
@@ -88,22 +88,22 @@ stays-none E n c h =
 
 -- before turn i of a pass that began with the bounds first₀ and last₀
 pub noting : {es first₀ last₀ first last : List ℕ} {m i : ℕ} → Bare es m first₀ last₀ → length first ≡ length first₀
-    → length last ≡ length last₀ → i < m → Stays (edgeAt es) i first last → Noting es i first last
+    → length last ≡ length last₀ → i < m → Spans (edgeAt es) i first last → Noting es i first last
 noting b e q h s =
     record {
       row = omega (arith, b .fit .rows);
       inside = omega (arith, b .fit .nodes _ h);
       same = omega (arith, b .same);
-      stays = s;
+      spans = s;
     }
 
 -- the same by what the code has read of row i
-pub stays-note : {es : List ℕ} {i : ℕ} (first last : List ℕ) {c v w e : ℕ} {l : Label} → Noting es i first last
+pub spans-note : {es : List ℕ} {i : ℕ} (first last : List ℕ) {c v w e : ℕ} {l : Label} → Noting es i first last
     → c ≡ edgeAt es i .child → l ≡ labelOf (edgeAt es i .from) (edgeAt es i .to)
     → v ≡ min (getD first c 0) (l .from) → e ≡ instantOf (l .end) → w ≡ max (getD last c 0) e
-    → Stays (edgeAt es) (i + 1) (set first c v) (set last c w)
-stays-note {es} {i} first last {c} {v} {w} {e} {l} n ec el ev ee ew =
+    → Spans (edgeAt es) (i + 1) (set first c v) (set last c w)
+spans-note {es} {i} first last {c} {v} {w} {e} {l} n ec el ev ee ew =
     let q : e ≡ edgeAt es i .to = ee ∙ ap (λ (x : Label). instantOf (x .end)) el ∙ instant-end (edgeAt es i .to) in
     let f : l .from ≡ edgeAt es i .from = ap (λ (x : Label). x .from) el in
     rw ec
-    (stays-set (edgeAt es) i first last (n .same) (n .inside) (rw (ec, f) at ev) (rw (ec, q) at ew) (n .stays))
+    (spans-set (edgeAt es) i first last (n .same) (n .inside) (rw (ec, f) at ev) (rw (ec, q) at ew) (n .spans))

@@ -3,15 +3,15 @@ use native.Mathlib.Omega.{arith}
 use Prim.Native.Nat.{_≤_, _-_}
 use mathlib.Core.Path.{_≡_}
 use lib.ListN.{length}
-use Rattle.tables.specs.Rows.{edgeAt}
-use Rattle.faults.specs.Stays.{Stays}
-use Rattle.faults.proofs.StayLaws.{noting}
-use Rattle.faults.proofs.stays.note_rows.Statement.{statement}
-use Rattle.faults.proofs.stays.note_rows.Tie as tie
+use Rattle.tables.specs.Tables.{edgeAt}
+use Rattle.faults.specs.Spans.{Spans}
+use Rattle.faults.proofs.SpanLaws.{noting}
+use Rattle.faults.proofs.spans.note_rows.Statement.{statement}
+use Rattle.faults.proofs.spans.note_rows.Tie as tie
 
 abbrev Inv-loop : tie.InvT-loop
 Inv-loop edges m first₀ last₀ i₀ first last i =
-    (i ≤ m) × (length first ≡ length first₀) × (length last ≡ length last₀) × Stays (edgeAt edges) i first last
+    (i ≤ m) × (length first ≡ length first₀) × (length last ≡ length last₀) × Spans (edgeAt edges) i first last
 
 abbrev μ-loop : tie.MeasureT-loop
 μ-loop edges m first₀ last₀ i₀ first last i = m - i

@@ -1,7 +1,7 @@
-use Rattle.faults.proofs.StayLaws.{stays-note}
+use Rattle.faults.proofs.SpanLaws.{spans-note}
 use borrow.Author.Needs.{needs}
-use Rattle.faults.proofs.stays.note_row.Statement.{statement}
-use Rattle.faults.proofs.stays.note_row.Tie as tie
+use Rattle.faults.proofs.spans.note_row.Statement.{statement}
+use Rattle.faults.proofs.spans.note_row.Tie as tie
 
 -- where the row has been read, and where its start has been noted
 abbrev start : tie.After-edge-label → tie.Start
@@ -62,7 +62,7 @@ returns : tie.Need-returns
 returns c =
     let noted = c .before .before .before in
     let row = label noted in
-    stays-note _ _ (start row .pre) (row .before .edge-child .ensures) (row .edge-label .ensures)
+    spans-note _ _ (start row .pre) (row .before .edge-child .ensures) (row .edge-label .ensures)
     (noted .smaller .ensures) (c .before .instant .ensures) (c .larger .ensures)
 
 pub note-row-spec : {M : Type 1} → statement M
