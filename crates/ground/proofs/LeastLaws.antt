@@ -25,6 +25,11 @@ below-suc P n f p i h = go (ℕ-discrete i n)
     go (yes e) = subst P (sym e) p
     go (no e) = f i (omega arith)
 
+-- what goes from each number to the one before it goes down to 0
+pub descend : (P : ℕ → Type 0) → ((n : ℕ) → P (suc n) → P n) → (n : ℕ) → P n → P 0
+descend P step zero p = p
+descend P step (suc n) p = descend P step n (step n p)
+
 module _ (P : ℕ → Type 0) where
   -- the invariant of a search: at its start, and after a turn that did not find
   pub before-none : Before P 0

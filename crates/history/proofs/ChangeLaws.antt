@@ -13,15 +13,16 @@ use Rattle.history.specs.Faults.{History, Into, Chain, Here}
 use Rattle.history.specs.Changes.{Changes, Change, LastChange}
 
 -- a label stands at s as it stands at t
-pub record Kept (from to t s : ℕ) : Type 0 where
+pub record Unchanged (from to t s : ℕ) : Type 0 where
   pub force : During from to t → During from to s
   pub back : During from to s → During from to t
   pub past : to < t → to < s
   pub ahead : t < from → s < from
 
 -- so it does where it has no change after s up to t
-pub kept : (from to t s : ℕ) → t ≤ Now → s ≤ t → ((c : ℕ) → s < c → c ≤ t → Changes from to c → ⊥) → Kept from to t s
-kept from to t s now st none =
+pub unchanged : (from to t s : ℕ) → t ≤ Now → s ≤ t → ((c : ℕ) → s < c → c ≤ t → Changes from to c → ⊥)
+    → Unchanged from to t s
+unchanged from to t s now st none =
     record {
       force = λ f. (starts (decLe from s) (f .0), omega arith);
       back = λ f. (omega arith, ends (decLe t to) f);
@@ -42,21 +43,22 @@ kept from to t s now st none =
     passed (no n) p = absurd (none (to + 1) (omega arith) (omega arith) (inr (omega arith, refl)))
 
 -- the labels of a history stand at s as they stand at t
-pub record AllKept (H : History) (t s : ℕ) : Type 0 where
+pub record AllUnchanged (H : History) (t s : ℕ) : Type 0 where
   pub order : s ≤ t
-  pub edges : (i : ℕ) → i < H .edges → Kept (H .edge i .from) (H .edge i .to) t s
-  pub refs : (k : ℕ) → k < H .refs → Kept (H .ref k .from) (H .ref k .to) t s
+  pub edges : (i : ℕ) → i < H .edges → Unchanged (H .edge i .from) (H .edge i .to) t s
+  pub refs : (k : ℕ) → k < H .refs → Unchanged (H .ref k .from) (H .ref k .to) t s
 
 -- so they do where nothing changes after s up to t
-pub calm-kept : (H : History) (t s : ℕ) → t ≤ Now → s ≤ t → ((c : ℕ) → s < c → c ≤ t → Change H c → ⊥) → AllKept H t s
-calm-kept H t s now l calm =
+pub calm-unchanged : (H : History) (t s : ℕ) → t ≤ Now → s ≤ t → ((c : ℕ) → s < c → c ≤ t → Change H c → ⊥)
+    → AllUnchanged H t s
+calm-unchanged H t s now l calm =
     record {
       order = l;
-      edges = λ i h. kept (H .edge i .from) (H .edge i .to) t s now l (λ c a b x. calm c a b (inl (i, h, x)));
-      refs = λ k h. kept (H .ref k .from) (H .ref k .to) t s now l (λ c a b x. calm c a b (inr (k, h, x)));
+      edges = λ i h. unchanged (H .edge i .from) (H .edge i .to) t s now l (λ c a b x. calm c a b (inl (i, h, x)));
+      refs = λ k h. unchanged (H .ref k .from) (H .ref k .to) t s now l (λ c a b x. calm c a b (inr (k, h, x)));
     }
 
-module _ (H : History) (t s : ℕ) (k : AllKept H t s) where
+module _ (H : History) (t s : ℕ) (k : AllUnchanged H t s) where
   pub into-s : (n i : ℕ) → Into (H .edges) (H .edge) t n i → Into (H .edges) (H .edge) s n i
   into-s n i p = record { row = p .row; into = p .into; force = k .edges i (p .row) .force (p .force) }
 

@@ -13,7 +13,6 @@ use Rattle.ground.proofs.TestLaws.{by-test}
 use Rattle.ground.proofs.LeastLaws.{below-suc}
 use Rattle.answers.specs.declared.Fault.{Fault}
 use Rattle.answers.specs.declared.Answer.{Answer}
-use Rattle.answers.specs.declared.Answer.the-variants.{Faulty}
 use Rattle.answers.specs.Numbers.{refuses}
 use Rattle.answers.proofs.AnswerLaws.{faulty-refuses}
 use Rattle.tables.specs.Tables.{Now}

@@ -2,11 +2,14 @@ pub mod Chains
 pub mod Tree
 pub mod RuledLaws
 pub mod SoundLaws
+pub mod ConsecutiveLaws
+pub mod ListedLaws
 pub mod ChangeLaws
 pub mod ComputedLaws
 pub mod LineLaws
 pub mod OrderLaws
 pub mod SayLaws
+pub mod DocumentLaws
 pub mod VerdictLaws
 pub mod ExistsLaws
 pub mod UntilLaws

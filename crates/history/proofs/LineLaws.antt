@@ -1,6 +1,6 @@
 -- What each line of the table obeys, a clause of `lawful` for each kind; and what follows for every fault. Assumes
 -- nothing.
-use mathlib.Core.Path.{_≡_, refl, subst}
+use mathlib.Core.Path.{refl, subst}
 use mathlib.Core.Logic.{inl, inr}
 use Prim.Native.Nat.{ℕ, suc, _≤_, _<_}
 use native.Mathlib.Nat.{le-antisymm}
@@ -20,7 +20,8 @@ use Rattle.history.specs.Places.{Astray, places}
 use Rattle.history.specs.Changes.{Change, LastChange}
 use Rattle.history.specs.Computed.{holds}
 use Rattle.history.proofs.RuledLaws.{ruled-below}
-use Rattle.history.proofs.ChangeLaws.{AllKept, calm-kept, into-s, into-t, chain-s, present-t, last-change}
+use Rattle.history.proofs.ChangeLaws.{AllUnchanged, calm-unchanged, into-s, into-t, chain-s, present-t}
+use Rattle.history.proofs.ChangeLaws.{last-change}
 use Rattle.history.proofs.ComputedLaws.{overlap-tells, gap-tells, outside-tells, cycle-tells, astray-tells}
 
 module _ (H : History) where
@@ -29,12 +30,12 @@ module _ (H : History) where
   pub record Lawful (k : Kind) : Type 0 where
     pub tells : Ruled H → (t p : ℕ) → Tells (holds H t k p) (HoldsAt H t k p)
     pub below : Ruled H → (t p : ℕ) → HoldsAt H t k p → p < places H k
-    pub back : (t s : ℕ) → AllKept H t s → (p : ℕ) → HoldsAt H t k p → HoldsAt H s k p
+    pub back : (t s : ℕ) → AllUnchanged H t s → (p : ℕ) → HoldsAt H t k p → HoldsAt H s k p
     pub change : (t p : ℕ) → t ≤ Now → HoldsAt H t k p → (s : ℕ) × (s ≤ t) × Change H s
 
   -- LATE and DANGLING
   module _ (side : Side) where
-    astray-back : (t s : ℕ) → AllKept H t s → (k : ℕ) → Astray H t side k → Astray H s side k
+    astray-back : (t s : ℕ) → AllUnchanged H t s → (k : ℕ) → Astray H t side k → Astray H s side k
     astray-back t s l k ((r, x), none) =
         ((r, l .refs k r .force x), λ p. none (present-t H t s l (sideOf side (H .ref k)) p))
 
@@ -99,7 +100,7 @@ module _ (H : History) where
   -- where nothing changes after t up to s, what is a fault at s is the same fault at t
   pub fault-back : (t s : ℕ) → s ≤ Now → t ≤ s → ((c : ℕ) → t < c → c ≤ s → Change H c → ⊥) → (f : Fault)
       → Holds H s f → Holds H t f
-  fault-back t s now l calm f x = lawful (f .kind) .back s t (calm-kept H s t now l calm) (f .place) x
+  fault-back t s now l calm f x = lawful (f .kind) .back s t (calm-unchanged H s t now l calm) (f .place) x
 
   -- so a fault is also there at the greatest change instant up to its own
   pub fault-last : (t : ℕ) (f : Fault) → t ≤ Now → Holds H t f → (c : ℕ) × LastChange H t c × Holds H c f

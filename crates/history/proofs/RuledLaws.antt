@@ -1,11 +1,12 @@
 -- What the rules of rows say of the history that tables hold. Assumes nothing.
 use mathlib.Core.Path.{_≡_, refl, sym, subst}
 use mathlib.Core.Logic.{⊎-elim}
-use Prim.Native.Nat.{ℕ, _<_}
+use Prim.Native.Nat.{ℕ, _+_, _*_, _≤_, _<_}
 use native.Mathlib.Omega.{arith}
+use lib.ListN.{getD}
 use Rattle.tables.specs.declared.rows.Side.{Side}
 use Rattle.tables.specs.declared.rows.Side.the-variants.{Attribute, Target}
-use Rattle.tables.specs.Tables.{NodeRow, EdgeRow, Tables, nodeIn, edgeIn}
+use Rattle.tables.specs.Tables.{Now, NodeRow, EdgeRow, edgeWidth, edgeAt, Tables, nodeIn, edgeIn}
 use Rattle.tables.specs.Rows.{sideOf}
 use Rattle.tables.specs.Rules.{NodeRule, EdgeRule, Obeys}
 use Rattle.history.specs.Faults.{History, held}
@@ -59,3 +60,9 @@ obeys-lent L o =
       ref-rows = omega (arith, o .sizes .refs .whole);
       ruled = obeys-ruled L o;
     }
+
+-- where the containment table is of 32-bit numbers, no label passes Now
+pub held-ends : (L : Tables) → ((k : ℕ) → getD (L .edges .numbers) k 0 ≤ Now) → (i : ℕ) → i < held L .edges
+    → held L .edge i .to ≤ Now
+unfolding edgeAt
+held-ends L small i h = small (i * edgeWidth + 3)

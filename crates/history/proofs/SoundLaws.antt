@@ -24,7 +24,7 @@ module _ (H : History) (t : ℕ) where
       go (no e) s (yes i) = yes (inr (e, i))
       go (no e) s (no i) = no (⊎-elim (λ p. e (p .0)) (λ p. i (p .1)))
 
-  not-away : (n : ℕ) → ((Here H t n → ⊥) → ⊥) → Here H t n
+  pub not-away : (n : ℕ) → ((Here H t n → ⊥) → ⊥) → Here H t n
   not-away n f = go (here-dec n)
     where
       go : Dec (Here H t n) → Here H t n

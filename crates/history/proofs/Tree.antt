@@ -54,10 +54,9 @@ module _ (m : ℕ) (E : ℕ → EdgeRow) (t : ℕ) where
         ap₂ _∷_ e (one-chain (E i .parent) is js (p .1)
         (to-node m E t 0 (E j .parent) (E i .parent) js (ap (λ k. E k .parent) e) (q .1)))
 
-  -- where a row out of a node other than the root comes with a row into it, and no chain goes round, a node touched has
-  -- a chain from the root
-  module _ (N : ℕ) (b : NodesBelow m E N) (outs : (n : ℕ) → Outside m E t n → ⊥) where
-    up-row : (n : ℕ) → n ≢ 0 → Touched m E t n → (i : ℕ) × Into m E t n i
+  -- where a row out of a node other than the root comes with a row into it, a node touched has a row into it
+  module _ (outs : (n : ℕ) → Outside m E t n → ⊥) where
+    pub up-row : (n : ℕ) → n ≢ 0 → Touched m E t n → (i : ℕ) × Into m E t n i
     up-row n ne (inl s) = s
     up-row n ne (inr o) = go (into-dec m E t n)
       where
@@ -65,6 +64,8 @@ module _ (m : ℕ) (E : ℕ → EdgeRow) (t : ℕ) where
         go (yes s) = s
         go (no f) = absurd (outs n (ne, o, λ i p. f (i, p)))
 
+  -- and where besides no chain goes round, it has a chain from the root
+  module _ (N : ℕ) (b : NodesBelow m E N) (outs : (n : ℕ) → Outside m E t n → ⊥) where
     touched-below : (n : ℕ) → Touched m E t n → n < N
     touched-below n (inl s) = omega (arith, b (s .0) (s .1 .row) .1, s .1 .into)
     touched-below n (inr s) = omega (arith, b (s .0) (s .1 .row) .0, s .1 .out)
@@ -86,7 +87,7 @@ module _ (m : ℕ) (E : ℕ → EdgeRow) (t : ℕ) where
         go : Dec (n ≡ 0) → ((p : ℕ) → Touched m E t p → Walk k p) → Walk (suc k) n
         go (yes e) w = inl ([], sym e)
         go (no ne) w =
-            let (i, p) = up-row n ne h in
+            let (i, p) = up-row outs n ne h in
             longer k n i p (w (E i .parent) (parent-touched m E t n i p))
 
     pub some-chain : ((n : ℕ) → Cycle m E t n → ⊥) → (n : ℕ) → Touched m E t n → (is : List ℕ) × Chain m E t 0 n is

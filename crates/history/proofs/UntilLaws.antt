@@ -15,8 +15,8 @@ use Rattle.history.specs.Faults.{History}
 use Rattle.history.specs.Changes.{Changes, Change}
 use Rattle.history.specs.Until.{Starts, Ends, Still, Calm, Stops, LargestInstant, Until}
 
-pub largest-unique : {P : ℕ → Type 0} {u v : ℕ} → LargestInstant P u → LargestInstant P v → u ≡ v
-largest-unique {u = u} {v = v} a b =
+pub largest-instant-unique : {P : ℕ → Type 0} {u v : ℕ} → LargestInstant P u → LargestInstant P v → u ≡ v
+largest-instant-unique {u = u} {v = v} a b =
     omega (arith, a .largest v (b .instant) (b .here), b .largest u (a .instant) (a .here))
 
 -- an instant after which the property fails

@@ -1,4 +1,4 @@
--- Two verdicts coincide; and demand 3 for the whole of a history. Assumes nothing.
+-- Two verdicts coincide; the agreement with the paper, and demand 3, for the whole of a history. Assumes nothing.
 use mathlib.Core.Path.{_≡_, refl, sym, ap, ap₂, subst}
 use mathlib.Core.Logic.{_↔_}
 use Prim.Native.Nat.{ℕ, _≤_, _<_}
@@ -12,9 +12,11 @@ use Rattle.tables.specs.Tables.{Now}
 use Rattle.history.specs.Faults.{History, Holds, First, Faultless, Earliest, Verdict, accepted, refused}
 use Rattle.history.specs.Ruled.{Ruled}
 use Rattle.history.specs.Sound.{Sound}
+use Rattle.history.specs.Document.{Document}
 use Rattle.history.specs.Places.{Names, none, first}
 use Rattle.history.proofs.OrderLaws.{first-unique}
 use Rattle.history.proofs.SoundLaws.{sound}
+use Rattle.history.proofs.DocumentLaws.{document}
 
 -- two verdicts for one history coincide, and so do two answers that name the first fault at an instant
 module _ (H : History) where
@@ -38,10 +40,15 @@ names-unique F t (none n) (first b) = absurd (n _ (b .holds))
 names-unique F t (first a) (none k) = absurd (k _ (a .holds))
 names-unique F t (first a) (first b) = ap (Faulty t) (first-unique F _ _ a b)
 
--- demand 3: accepted exactly if the sentence holds at every instant; otherwise the earliest instant at which it fails
+-- accepted exactly if the history is a Temporal XML Document; demand 3: exactly if the sentence holds at every instant;
+-- otherwise the earliest instant at which it fails
 module _ (H : History) (r : Ruled H) where
   faultless-of : Verdict H passed → (t : ℕ) → t ≤ Now → Faultless H t
   faultless-of (accepted n) = n
+
+  pub accepted-document : ((i : ℕ) → i < H .edges → H .edge i .to ≤ Now) → Verdict H passed ↔ Document H
+  accepted-document bound =
+      (λ v. document H r bound .1 (faultless-of v), λ d. accepted (document H r bound .0 d))
 
   pub accepted-sound : Verdict H passed ↔ ((t : ℕ) → t ≤ Now → Sound H t)
   accepted-sound = (λ v t h. sound H t r .0 (faultless-of v t h), λ s. accepted (λ t h. sound H t r .1 (s t h)))
@@ -50,7 +57,7 @@ module _ (H : History) (r : Ruled H) where
   earliest-of (refused e) = e
 
   pub refused-unsound : {t : ℕ} {f : Fault} → Verdict H (Faulty t f)
-      → (Sound H t → ⊥) × ((s : ℕ) → s < t → Sound H s) × First (Holds H t) f
+      → (t ≤ Now) × (Sound H t → ⊥) × ((s : ℕ) → s < t → Sound H s) × First (Holds H t) f
   refused-unsound {t} {f} v =
       let e = earliest-of v in
-      (λ s. sound H t r .1 s f (e .fault .holds), λ s h. sound H s r .0 (e .earliest s h), e .fault)
+      (e .instant, λ s. sound H t r .1 s f (e .fault .holds), λ s h. sound H s r .0 (e .earliest s h), e .fault)

@@ -1,5 +1,6 @@
 pub mod Faults
 pub mod Sound
+pub mod Document
 pub mod Ruled
 pub mod Places
 pub mod Changes

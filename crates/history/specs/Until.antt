@@ -1,9 +1,9 @@
 -- How long nothing changes.
---   Starts, Ends   a label starts in t+1 to u, ends in t to u−1
---   Still          it does neither; Calm: no label of n does; RowsCalm: no row of either table does
---   Stops          a label starts at u+1 or ends at u
---   LargestInstant        the largest instant with a property
---   RowsUntil      how long no row of either table starts or ends; Until: of a history
+--   Starts, Ends     a label starts in t+1 to u, ends in t to u−1
+--   Still            it does neither; Calm: no label of n does; RowsCalm: no row of either table does
+--   Stops            a label starts at u+1 or ends at u
+--   LargestInstant   the largest instant with a property
+--   RowsUntil        how long no row of either table starts or ends; Until: of a history
 -- Assumes nothing.
 use mathlib.Core.Path.{_≡_}
 use mathlib.Core.Logic.{_⊎_}
