@@ -18,14 +18,26 @@
  * it may be NULL. What a call may write to overlaps nothing else that is lent to it. Calls share nothing, so that any
  * number of threads may call at once.
  *
- * A call takes its memory from the stack of its thread and nowhere else. So many bytes were needed for tables of full
- * size, measured on aarch64 (docs/PERFORMANCE.md):
+ * The archive that `rt staticlib bindlewort` writes is for Linux on x86-64, called in the way of System V. For another
+ * machine `tests/library` compiles the same proved module; that is tried on Linux on aarch64.
  *
- *   bw_check         16,828
- *   bw_snapshot      20,908 for a shallow ward; 164,172 for the deepest chain, 1,023 rows: 144 for each level
- *   bw_repair         8,364
- *   bw_write_text       372
- *   bw_read_text        620
+ * An answer, 12 bytes, comes back in registers. A result past 16 bytes, as struct bw_reading with its 28, comes back in
+ * memory of the caller, whose address is handed over before all other arguments, in rdi, and comes back in rax; on
+ * aarch64 it is handed over in x8. Compilers of C, C++ and Rust see to that by themselves.
+ *
+ * A call takes its memory from the stack of its thread and nowhere else. So many bytes are enough whatever it is given,
+ * as measured for tables of full size (docs/PERFORMANCE.md) and rounded up:
+ *
+ *                                       x86-64   aarch64
+ *   bw_check                            17,000    17,000
+ *   bw_snapshot, tree of 20 levels      21,000    21,000
+ *   bw_snapshot, tree of 1,023 levels  181,000   164,500   the deepest; 160 and 144 bytes a level
+ *   bw_repair                            8,500     8,500
+ *   bw_write_text                          300       300
+ *   bw_read_text                           500       500
+ *
+ * memset of the C library is all that the library calls. Where a program binds it only at its first call, that takes
+ * stack too, which is not counted here.
  */
 #ifndef BINDLEWORT_H
 #define BINDLEWORT_H
@@ -54,6 +66,9 @@ extern "C" {
 #define BW_MOST_NODES 1024
 #define BW_MOST_EDGES 2048
 #define BW_MOST_REFS 1024
+
+/* How many bytes the longest text of tables in size has: every number has ten digits. */
+#define BW_MOST_TEXT 188475
 
 /* The largest label of a node. */
 #define BW_MOST_LABEL 65535
@@ -138,7 +153,8 @@ struct bw_answered bw_repair(uint32_t start, const uint32_t *nodes, size_t nodes
 /*
  * Writes the tables as text. Answers BW_DONE with place the count of bytes written to the front of out; the rest is
  * left as it was, and no zero byte is added. Applies no row rules. Refuses with BW_SIZE, then BW_TEXTROOM (place the
- * bytes needed); then all of out is left as it was. The bytes needed can be asked for with an out of length 0.
+ * bytes needed); then all of out is left as it was. The bytes needed can be asked for with an out of length 0, and room
+ * for BW_MOST_TEXT is always enough.
  */
 struct bw_answered bw_write_text(uint32_t start, const uint32_t *nodes, size_t nodes_len, const uint32_t *edges,
                                  size_t edges_len, const uint32_t *refs, size_t refs_len, uint8_t *out, size_t out_len);

@@ -88,6 +88,20 @@ static void snapshot(void) {
     expect("snapshot of the root alone without room", is(a, BW_ROOM, 0, 1));
 }
 
+/* Every number has ten digits: an end of BW_NOW would be written as a word of three letters. */
+static void longest_text(void) {
+    static uint32_t n[BW_MOST_NODES * BW_NODE_WIDTH], e[BW_MOST_EDGES * BW_EDGE_WIDTH], r[BW_MOST_REFS * BW_REF_WIDTH];
+    static uint8_t written[BW_MOST_TEXT];
+    struct bw_answered a;
+    memset(n, 0xFE, sizeof n);
+    memset(e, 0xFE, sizeof e);
+    memset(r, 0xFE, sizeof r);
+    a = bw_write_text(BW_NOW, n, LENGTH(n), e, LENGTH(e), r, LENGTH(r), written, BW_MOST_TEXT - 1);
+    expect("one byte too little for the longest text", is(a, BW_TEXTROOM, 0, BW_MOST_TEXT));
+    a = bw_write_text(BW_NOW, n, LENGTH(n), e, LENGTH(e), r, LENGTH(r), written, BW_MOST_TEXT);
+    expect("the longest text", is(a, BW_DONE, 0, BW_MOST_TEXT));
+}
+
 static void text(void) {
     uint8_t written[256];
     uint32_t n[LENGTH(nodes)], e[LENGTH(edges)], r[LENGTH(refs)];
@@ -122,5 +136,6 @@ int main(void) {
     repair();
     snapshot();
     text();
+    longest_text();
     return failures != 0;
 }

@@ -23,6 +23,9 @@ pub const MOST_NODES: usize = 1024;
 pub const MOST_EDGES: usize = 2048;
 pub const MOST_REFS: usize = 1024;
 
+/// How many bytes the longest text of tables in size has.
+pub const MOST_TEXT: usize = 188_475;
+
 /// The largest label of a node.
 pub const MOST_LABEL: u32 = 65_535;
 

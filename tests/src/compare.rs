@@ -4,7 +4,7 @@
 use crate::histories::History;
 use crate::{code, model, Answered, Reading, EDGE_WIDTH, NODE_WIDTH, REF_WIDTH};
 use std::fmt::Debug;
-use std::hint::black_box;
+use std::ptr::read_volatile;
 
 /// How often each code was answered by one of the calls.
 pub struct Tally {
@@ -63,10 +63,11 @@ impl<T: Copy + PartialEq + Debug> Lent<T> {
         &mut self.all[GUARDS..GUARDS + self.length]
     }
 
-    /// What the library left, after a look at the guards.
-    fn back(mut self) -> Vec<T> {
-        black_box(&mut self.all);
-        let (front, rest) = self.all.split_at(GUARDS);
+    /// What the library left, after a look at the guards. It is read anew, since the compiler may think that it knows
+    /// what was only lent to be read, and what was not lent.
+    fn back(self) -> Vec<T> {
+        let all: Vec<T> = self.all.iter().map(|value| unsafe { read_volatile(value) }).collect();
+        let (front, rest) = all.split_at(GUARDS);
         let (content, end) = rest.split_at(self.length);
         assert!(front.iter().chain(end).all(|v| *v == self.guard), "a guard was written to");
         content.to_vec()

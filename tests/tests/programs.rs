@@ -67,6 +67,29 @@ fn a_cpp_program_calls_the_library() {
     compiled_and_run("g++", "c++11", "tests/c/calls.cc");
 }
 
+/// No call takes more stack on this machine than the header says. The program measures trees of 20, 1,000 and 1,023
+/// levels.
+#[test]
+fn the_stack_is_what_the_header_says() {
+    let header = read("include/bindlewort.h");
+    let column = if cfg!(target_arch = "x86_64") { 0 } else { 1 };
+    let stated = |call: &str| -> u32 {
+        let row = header.lines().find_map(|line| line.strip_prefix(" *   ")?.strip_prefix(call)?.strip_prefix("  "));
+        let bytes = row.and_then(|row| row.split_whitespace().nth(column)?.replace(',', "").parse().ok());
+        bytes.unwrap_or_else(|| panic!("the header does not say what {call} takes"))
+    };
+    let printed = compiled_and_run("gcc", "c99", "tests/c/stack.c");
+    for line in printed.lines() {
+        let numbers: Vec<u32> = line.split(' ').map(|number| number.parse().unwrap()).collect();
+        let snapshot = format!("bw_snapshot, tree of {} levels", if numbers[0] == 20 { "20" } else { "1,023" });
+        let calls = ["bw_check", &snapshot, "bw_repair", "bw_write_text", "bw_read_text"];
+        for (call, taken) in calls.iter().zip(&numbers[1..]) {
+            assert!(*taken <= stated(call), "{call}: {taken} bytes are taken, and the header says {}", stated(call));
+        }
+    }
+    assert_eq!(printed.lines().count(), 3);
+}
+
 #[test]
 fn the_example_in_c() {
     assert_eq!(compiled_and_run("gcc", "c99", "tests/examples/check.c"), "16 100 0\n");

@@ -28,7 +28,7 @@ fn declares(text: &str, name: &str) -> bool {
         let line = line.strip_prefix("abbrev ").or(line.strip_prefix("unfoldable ")).unwrap_or(line);
         let line = line.strip_prefix("pub ").unwrap_or(line);
         let line = line.strip_prefix("record ").or(line.strip_prefix("data ")).unwrap_or(line);
-        line.strip_prefix(name).is_some_and(|rest| rest.starts_with(' '))
+        line.strip_prefix(name).map_or(false, |rest| rest.starts_with(' '))
     })
 }
 

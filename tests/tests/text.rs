@@ -4,12 +4,12 @@ use bindlewort_tests::code::*;
 use bindlewort_tests::compare::{numbers_read, read_text, rounds, write_text, Tally};
 use bindlewort_tests::histories::{chain, grown, h, hurt, most_instants, random_tables, ward, History, Size, H_TEXT};
 use bindlewort_tests::random::Random;
-use bindlewort_tests::{model, Answered, Reading, MOST_EDGES, MOST_NODES, MOST_REFS, NOW};
+use bindlewort_tests::{model, Answered, Reading, MOST_EDGES, MOST_NODES, MOST_REFS, MOST_TEXT, NOW};
 
 const ENOUGH: [usize; 3] = [3 * MOST_NODES, 4 * MOST_EDGES, 4 * MOST_REFS];
 
-/// The longest text has some 90,000 bytes.
-const LONG: usize = 200_000;
+/// Room for the longest text and some more.
+const LONG: usize = MOST_TEXT + 9;
 
 /// The text of tables that are in size, by the model.
 fn text_of(history: &History) -> Option<Vec<u8>> {
@@ -49,12 +49,26 @@ fn full_size_tables_make_the_round_trip() {
     for history in [ward(Size::FULL), chain(Size::FULL), most_instants(Size::FULL)] {
         round_trip(writes, reads, &history);
     }
-    // The longest text: every number has ten digits.
-    let long = |numbers: usize| vec![NOW - 1; numbers];
-    let [nodes, edges, refs] = ENOUGH.map(long);
-    round_trip(writes, reads, &History { start: NOW, nodes, edges, refs });
+    round_trip(writes, reads, &longest());
     writes.met_exactly(&[DONE]);
     reads.met_exactly(&[DONE]);
+}
+
+/// Tables of the longest text: as many rows as there can be, and every number has ten digits. An end of `NOW` would be
+/// written as a word of three letters.
+fn longest() -> History {
+    let [nodes, edges, refs] = ENOUGH.map(|numbers| vec![NOW - 1; numbers]);
+    History { start: NOW, nodes, edges, refs }
+}
+
+#[test]
+fn the_longest_text_has_the_stated_length() {
+    let tally = &mut Tally::of("write text");
+    for (room, code) in [(0, TEXTROOM), (MOST_TEXT - 1, TEXTROOM), (MOST_TEXT, DONE)] {
+        let (said, _) = write_text(tally, &longest(), room);
+        assert_eq!((said.code, said.place as usize), (code, MOST_TEXT));
+    }
+    tally.met_exactly(&[DONE, TEXTROOM]);
 }
 
 /// Tables of every sort: the text needs no row rules.

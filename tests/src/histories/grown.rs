@@ -60,7 +60,10 @@ impl Ward {
     }
 
     fn move_to(&mut self, child: usize, parent: usize) {
-        let Some(row) = self.open[child] else { return };
+        let row = match self.open[child] {
+            Some(row) => row,
+            None => return,
+        };
         let fits = self.present(parent) && self.may_hold(parent, child) && !self.below(parent, child);
         if fits && self.edges[row][2] < self.now {
             self.edges[row][3] = self.now - 1;

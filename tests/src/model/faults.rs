@@ -4,17 +4,17 @@ use super::{answer, History, Row};
 use crate::{Answered, NOW};
 
 /// What is in force at an instant.
-pub struct Moment<'a> {
-    pub history: &'a History,
-    pub t: u32,
+pub(super) struct Moment<'a> {
+    pub(super) history: &'a History,
+    pub(super) t: u32,
     /// The containment rows in force.
-    pub edges: Vec<Row>,
+    pub(super) edges: Vec<Row>,
     /// For each node the count of rows into it that are in force.
     into: Vec<usize>,
 }
 
 impl<'a> Moment<'a> {
-    pub fn at(history: &'a History, t: u32) -> Moment<'a> {
+    pub(super) fn at(history: &'a History, t: u32) -> Moment<'a> {
         let edges: Vec<Row> = history.edges.iter().copied().filter(|row| row.in_force(t)).collect();
         let mut into = vec![0; history.nodes];
         for row in &edges {
@@ -87,7 +87,7 @@ impl<'a> Moment<'a> {
     }
 
     /// The smallest code, and there the smallest place.
-    pub fn fault(&self, with_gap: bool) -> Option<Answered> {
+    pub(super) fn fault(&self, with_gap: bool) -> Option<Answered> {
         let said = |code: u32, place: Option<usize>| place.map(|p| answer(code, self.t, p));
         said(11, self.overlap())
             .or_else(|| if with_gap { said(12, self.gap()) } else { None })
@@ -99,7 +99,7 @@ impl<'a> Moment<'a> {
 }
 
 /// For each node the children that rows lead to, by rising number.
-pub fn children(nodes: usize, edges: &[Row]) -> Vec<Vec<usize>> {
+pub(super) fn children(nodes: usize, edges: &[Row]) -> Vec<Vec<usize>> {
     let mut children = vec![Vec::new(); nodes];
     for row in edges {
         children[row.one].push(row.other);
@@ -128,7 +128,7 @@ fn leads(children: &[Vec<usize>], from: usize, to: usize) -> bool {
 
 /// The instants to look at: every number of a label and its neighbours, the start, and the last ones. Between two of
 /// them nothing begins or ends.
-pub fn instants(history: &History) -> Vec<u32> {
+pub(super) fn instants(history: &History) -> Vec<u32> {
     let mut all = vec![history.start, NOW - 1, NOW];
     for row in history.edges.iter().chain(&history.refs) {
         for number in [row.from, row.to] {

@@ -80,23 +80,23 @@ fn label_stands(start: u32, row: &Row) -> bool {
 
 /// "parent of kind 0 or 1 with child of kind 1 to 5; parent of kind 2 or 3 with child of kind 5; nothing else"
 fn edge_stands(start: u32, nodes: &[Node], row: &Row) -> bool {
-    let (Some(parent), Some(child)) = (nodes.get(row.one), nodes.get(row.other)) else {
-        return false;
-    };
-    let allowed = match parent.kind {
+    let allowed = |parent: &Node, child: &Node| match parent.kind {
         0 | 1 => (1..=5).contains(&child.kind),
         2 | 3 => child.kind == 5,
         _ => false,
     };
-    allowed && label_stands(start, row)
+    match (nodes.get(row.one), nodes.get(row.other)) {
+        (Some(parent), Some(child)) => allowed(parent, child) && label_stands(start, row),
+        _ => false,
+    }
 }
 
 /// "attribute (kind 4), target (kind 1)"
 fn ref_stands(start: u32, nodes: &[Node], row: &Row) -> bool {
-    let (Some(attribute), Some(target)) = (nodes.get(row.one), nodes.get(row.other)) else {
-        return false;
-    };
-    attribute.kind == 4 && target.kind == 1 && label_stands(start, row)
+    match (nodes.get(row.one), nodes.get(row.other)) {
+        (Some(attribute), Some(target)) => attribute.kind == 4 && target.kind == 1 && label_stands(start, row),
+        _ => false,
+    }
 }
 
 /// The tables of a history whose sizes and rows obey the rules.

@@ -1,14 +1,13 @@
-//! The library beside the same algorithms in plain Rust, interleaved in one run: medians, ratios, growth with size,
-//! and the stack that each call needs. `tests/bench` builds the library and runs this.
+//! The library beside the same algorithms in plain Rust, interleaved in one run: medians, ratios, growth with size.
+//! `tests/bench` builds the library and runs this.
 
 mod plain;
-mod stack;
 
 use bindlewort_tests::histories::{chain, late_fault, most_instants, ward, History, Size};
 use bindlewort_tests::{check, read_text, repair, snapshot, write_text};
-use bindlewort_tests::{Answered, MOST_EDGES, MOST_NODES, MOST_REFS, NOW, SNAPSHOT_WIDTH};
+use bindlewort_tests::{Answered, MOST_EDGES, MOST_NODES, MOST_REFS, MOST_TEXT, NOW, SNAPSHOT_WIDTH};
 use std::fmt::Debug;
-use std::hint::black_box;
+use std::ptr::read_volatile;
 
 const ROUNDS: usize = 21;
 /// A sample repeats a call until it takes about so many seconds.
@@ -32,10 +31,11 @@ fn seconds() -> f64 {
     time.seconds as f64 + time.nanoseconds as f64 * 1e-9
 }
 
-fn timed<T>(repeats: usize, call: &mut impl FnMut() -> T) -> f64 {
+fn timed<T: Copy>(repeats: usize, call: &mut impl FnMut() -> T) -> f64 {
     let began = seconds();
     for _ in 0..repeats {
-        black_box(call());
+        // so that the compiler leaves nothing of the call out
+        unsafe { read_volatile(&call()) };
     }
     (seconds() - began) / repeats as f64
 }
@@ -46,7 +46,7 @@ fn median(mut samples: Vec<f64>) -> f64 {
 }
 
 /// Medians of the library and of its counterpart, in seconds, and the median of their ratios round by round.
-fn beside<T: PartialEq + Debug>(mut library: impl FnMut() -> T, mut plain: impl FnMut() -> T) -> [f64; 3] {
+fn beside<T: Copy + PartialEq + Debug>(mut library: impl FnMut() -> T, mut plain: impl FnMut() -> T) -> [f64; 3] {
     assert_eq!(library(), plain());
     let repeats = (SAMPLE / timed(1, &mut library).max(1e-9)).ceil() as usize;
     let rounds: Vec<[f64; 2]> =
@@ -119,7 +119,7 @@ fn tables() -> [Vec<u32>; 3] {
 }
 
 fn text_of(history: &History) -> Vec<u8> {
-    let mut text = vec![0; 200_000];
+    let mut text = vec![0; MOST_TEXT];
     let said = write_text(history.start, &history.nodes, &history.edges, &history.refs, &mut text);
     text.truncate(said.place as usize);
     text
@@ -137,7 +137,7 @@ fn snapshot_times(history: &History) -> [f64; 3] {
 
 fn write_times(history: &History) -> [f64; 3] {
     let History { start, nodes, edges, refs } = history;
-    let (mut one, mut other) = (vec![0; 200_000], vec![0; 200_000]);
+    let (mut one, mut other) = (vec![0; MOST_TEXT], vec![0; MOST_TEXT]);
     beside(
         || (write_text(*start, nodes, edges, refs, &mut one), one[99]),
         || (plain::write_text(*start, nodes, edges, refs, &mut other), other[99]),
@@ -153,28 +153,6 @@ fn read_times(history: &History) -> [f64; 3] {
     )
 }
 
-/// The deepest chain that there can be.
-fn deepest() -> History {
-    let rows: Vec<[u32; 4]> = (1..MOST_NODES as u32).map(|n| [n - 1, n, 0, NOW]).collect();
-    History::of_elements(MOST_NODES - 1).with_edges(&rows)
-}
-
-/// The stack of each call for a history of full size.
-fn stacks(history: &History) -> [usize; 5] {
-    let History { start, nodes, edges, refs } = history;
-    let text = text_of(history);
-    let t = busiest(history);
-    let (mut lent, mut shown, mut written) = (edges.clone(), out(), vec![0; 200_000]);
-    let [mut n, mut m, mut k] = tables();
-    [
-        stack::needed(|| check(*start, nodes, edges, refs)),
-        stack::needed(|| snapshot(*start, nodes, edges, refs, t, &mut shown)),
-        stack::needed(|| repair(*start, nodes, &mut lent)),
-        stack::needed(|| write_text(*start, nodes, edges, refs, &mut written)),
-        stack::needed(|| read_text(&text, &mut n, &mut m, &mut k)),
-    ]
-}
-
 fn main() {
     println!(
         "Median of {ROUNDS} rounds, library and plain Rust in turn, processor time. Sizes are parts of full size."
@@ -188,13 +166,5 @@ fn main() {
         table("repair", shape, repair_times);
         table("write", shape, write_times);
         table("read", shape, read_times);
-    }
-    println!("\nBytes of stack that a call needs at full size.");
-    println!("{:18} {:>8} {:>8} {:>8} {:>8} {:>8}", "history", "check", "snapshot", "repair", "write", "read");
-    let mut histories = SHAPES.map(|(name, shape)| (name, shape(Size::FULL))).to_vec();
-    histories.push(("chain, 1,023 deep", deepest()));
-    for (name, history) in histories {
-        let [check, snapshot, repair, write, read] = stacks(&history);
-        println!("{name:18} {check:8} {snapshot:8} {repair:8} {write:8} {read:8}");
     }
 }
