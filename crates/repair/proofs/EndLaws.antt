@@ -6,8 +6,11 @@ use native.Mathlib.Numerals.{add-one}
 use native.Mathlib.Omega.{arith}
 use lib.Dec.{ltb}
 use borrow.Author.Tests.{eq-eqb, ne-eqb}
+use Rattle.tables.specs.declared.label.Label.{Label}
 use Rattle.tables.specs.Tables.{EdgeRow}
-use Rattle.repair.specs.Ends.{sooner, nextStart, lastEnd, endBefore}
+use Rattle.tables.specs.Labels.{instantOf, labelOf}
+use Rattle.tables.proofs.LabelLaws.{label-from, label-to}
+use Rattle.repair.specs.Ends.{sooner, nextStart, lastEnd, endBefore, newEnd}
 use Rattle.repair.specs.Steps.{Bounded}
 
 -- of two starts the smaller, where the second is one
@@ -26,13 +29,14 @@ module _ (edge : ℕ → EdgeRow) (c s : ℕ) where
   bounded-none = record { start = refl; end = refl }
 
   module _ (i : ℕ) {a next last : ℕ} (ea : a ≡ edge i .child) (x : Bounded edge i c s next last) where
-    pub bounded-hit : {from to n l : ℕ} → a ≡ c → from ≡ edge i .from → to ≡ edge i .to
-        → n ≡ cond (ltb s from) (sooner from next) next → l ≡ max last to → Bounded edge (i + 1) c s n l
+    pub bounded-hit : {l : Label} {to n e : ℕ} → a ≡ c → l ≡ labelOf (edge i .from) (edge i .to)
+        → to ≡ instantOf (l .end) → n ≡ cond (ltb s (l .from)) (sooner (l .from) next) next → e ≡ max last to
+        → Bounded edge (i + 1) c s n e
     unfolding nextStart lastEnd
-    bounded-hit t ef et en el =
+    bounded-hit t er et en ee =
         record {
-          start = simp (add-one, ← ea, ← ef, eq-eqb a c t, ← x .start) en;
-          end = simp (add-one, ← ea, ← et, eq-eqb a c t, ← x .end) el;
+          start = simp (add-one, ← ea, ← label-from _ _ _ er, eq-eqb a c t, ← x .start) en;
+          end = simp (add-one, ← ea, ← label-to _ _ _ er, ← et, eq-eqb a c t, ← x .end) ee;
         }
 
     pub bounded-miss : {n l : ℕ} → (a ≡ c → ⊥) → n ≡ next → l ≡ last → Bounded edge (i + 1) c s n l
@@ -42,3 +46,10 @@ module _ (edge : ℕ → EdgeRow) (c s : ℕ) where
           start = simp (add-one, ← ea, ne-eqb a c t, ← x .start) en;
           end = simp (add-one, ← ea, ne-eqb a c t, ← x .end) el;
         }
+
+-- a row's new end, by its label, its child and the bounds that were found
+pub new-end-found : (edge : ℕ → EdgeRow) (m i : ℕ) {l : Label} {c next last e : ℕ}
+    → l ≡ labelOf (edge i .from) (edge i .to) → c ≡ edge i .child → Bounded edge m c (l .from) next last
+    → e ≡ endBefore next last → e ≡ newEnd edge m i
+unfolding newEnd
+new-end-found edge m i el ec x ee = rw (← label-from _ _ _ el, ← ec, ← x .start, ← x .end) ee

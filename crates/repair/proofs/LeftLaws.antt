@@ -9,13 +9,14 @@ use lib.ListN.{length}
 use Rattle.tables.specs.Tables.{EdgeRow, edgeAt}
 use Rattle.tables.specs.Rows.{HasEdges}
 use Rattle.history.specs.Faults.{Overlap, Gap}
-use Rattle.repair.specs.Ends.{Largest, NewEnd, tied, newEnd, repaired}
-use Rattle.repair.specs.Stays.{OnlyEnds, Stay, OneLatest}
+use Rattle.repair.specs.Repaired.{Largest, NewEnd, OnlyEnds}
+use Rattle.repair.specs.Ends.{tied, newEnd, repaired}
+use Rattle.repair.specs.Stays.{Stay, OneLatest}
 use Rattle.repair.proofs.TieLaws.{untied}
 use Rattle.repair.proofs.StoreLaws.{ends-length, ends-rest, ends-frame, ends-same, ends-twice}
 use Rattle.repair.proofs.BoundLaws.{same-from, row-after, tied-same}
 use Rattle.repair.proofs.StepLaws.{repaired-row}
-use Rattle.repair.proofs.NewEndLaws.{last-sound, from-le-new, new-end-sound, largest-unique}
+use Rattle.repair.proofs.NewEndLaws.{last-sound, from-le-new, new-end-sound, largest-end-unique}
 use Rattle.repair.proofs.StayLaws.{NewEnds, one-latest, last-stays, new-again}
 
 module _ (es : List ℕ) (m : ℕ) (has : HasEdges es m) where
@@ -54,7 +55,7 @@ module _ (es : List ℕ) (m : ℕ) (has : HasEdges es m) where
     pub left-last : (c e : ℕ) → Largest before m c e → Largest after m c e
     left-last c e x =
         let (j, r, q) = x .end in
-        let same = last-stays before after m left-ends c right ∙ largest-unique (last-sound before m c j r) x in
+        let same = last-stays before after m left-ends c right ∙ largest-end-unique (last-sound before m c j r) x in
         subst (Largest after m c) same (last-sound after m c j (row-after before after left-frame m c j r))
 
     pub left-again : repaired (repaired es m) m ≡ repaired es m

@@ -7,5 +7,5 @@ pub mod SaysLaws
 pub mod NewEndLaws
 pub mod StayLaws
 pub mod LeftLaws
-pub mod AnswersLaws
+pub mod RepairedLaws
 pub mod Repaired

@@ -1,10 +1,8 @@
 -- The theorems on repair, each of a call that answered r and left the containment table `left`: what the contract
 -- promises is all that they ask for. `rows` is the count of its rows.
---   answers-unique    two answers whose conditions hold are the same
 --   repaired-unique   two outcomes that the contract allows are the same
---   only-ends         parents, children, starts and the order of rows stay, whatever the answer
 --   refused-frame     a refused call leaves the table as it was
---   answer-exact      an answer whose condition holds is the one that is given
+--   only-ends         parents, children, starts and the order of rows stay, whatever the answer
 --   tie-named         where the rules hold and a row is tied, code 22 names the smallest such row and its start
 --   done-tells        code 0 is given exactly if the tables obey the rules and no row is tied
 -- and where the call answers code 0:
@@ -17,7 +15,7 @@
 -- Assumes nothing.
 use mathlib.Core.Path.{_≡_, refl, sym, ap, subst, _∙_}
 use mathlib.Core.Logic.{_↔_}
-use mathlib.Core.Bool.{true, false}
+use mathlib.Core.Bool.{true, false, false≢true}
 use mathlib.Core.List.{List}
 use Prim.Native.Nat.{ℕ, _≤_, _<_}
 use lib.ListN.{length}
@@ -26,28 +24,48 @@ use Rattle.ground.proofs.TestLaws.{by-test}
 use Rattle.answers.specs.declared.Answer.{Answer}
 use Rattle.answers.specs.declared.Answer.the-variants.{Done, Tie}
 use Rattle.answers.specs.Numbers.{refuses}
-use Rattle.tables.specs.Tables.{edgeAt, Tables, table, nodeIn}
+use Rattle.tables.specs.Tables.{edgeAt, Tables, table, nodeIn, edgeIn}
 use Rattle.tables.specs.Rows.{HasEdges}
 use Rattle.tables.specs.Rules.{EdgesSize, EdgeRule, Obeys}
 use Rattle.history.specs.Faults.{Overlap, Gap}
 use Rattle.history.proofs.RuledLaws.{obeys-lent}
-use Rattle.repair.specs.Ends.{Tied, Largest, NewEnd, tied, repaired, changed}
-use Rattle.repair.specs.Stays.{OnlyEnds, Stay, OneLatest}
-use Rattle.repair.specs.Answers.{Mended, Answers, Repaired, tie, done, withEdges}
+use Rattle.repair.specs.Repaired.{Tied, Largest, NewEnd, changed, OnlyEnds, Mended, Repaired, ruled-out, tie}
+use Rattle.repair.specs.Repaired.{mended}
+use Rattle.repair.specs.Ends.{tied, repaired}
+use Rattle.repair.specs.Stays.{Stay, OneLatest}
 use Rattle.repair.proofs.TieLaws.{untied-tells}
 use Rattle.repair.proofs.SaysLaws.{changed-none}
 use Rattle.repair.proofs.LeftLaws.{left-right, left-last, left-again, left-untied, left-one, left-no-overlap}
 use Rattle.repair.proofs.LeftLaws.{left-no-gap}
-use Rattle.repair.proofs.AnswersLaws.{obeys-mended, answers-is, done-given, repaired-left, outcome-of}
-
-pub answers-unique : {L : Tables} {a b : Answer} → Answers L a → Answers L b → a ≡ b
-answers-unique {L} x y = answers-is L x ∙ sym (answers-is L y)
+use Rattle.repair.proofs.RepairedLaws.{obeys-mended, outcome-of, mended-unique}
 
 pub repaired-unique : {L : Tables} {r q : Answer} {a b : List ℕ} → Repaired L r a → Repaired L q b → (r ≡ q) × (a ≡ b)
 repaired-unique x y =
     let s = outcome-of x in
     let t = outcome-of y in
     (s .answer ∙ sym (t .answer), s .table ∙ sym (t .table))
+
+pub refused-frame : {L : Tables} {r : Answer} {left : List ℕ} → Repaired L r left → refuses r ≡ true
+    → left ≡ L .edges .numbers
+refused-frame (ruled-out g t) e = refl
+refused-frame (tie o l) e = refl
+refused-frame (mended o none x) e = absurd (false≢true e)
+
+-- what the words say where the call answers code 0
+record Success (L : Tables) (r : Answer) (left : List ℕ) : Type 0 where
+  obeys : Obeys L
+  untied : Before (Tied (edgeIn L)) (L .edges .count)
+  table : Mended (L .edges) left
+  answer : r ≡ Done 0 (changed (edgeIn L) (edgeAt left) (L .edges .count))
+
+success : {L : Tables} {r : Answer} {left : List ℕ} → Repaired L r left → refuses r ≡ false → Success L r left
+success (ruled-out g t) e = absurd (false≢true (sym e ∙ t))
+success (tie o l) e = absurd (false≢true (sym e))
+success (mended o none x) e = record { obeys = o; untied = none; table = x; answer = refl }
+
+-- the tables where the containment table holds other numbers
+abbrev pub withEdges : Tables → List ℕ → Tables
+withEdges L left = record { start = L .start; nodes = L .nodes; edges = table left (L .edges .count); refs = L .refs }
 
 module _ {L : Tables} {r : Answer} {left : List ℕ} (x : Repaired L r left) where
   abbrev rows : ℕ
@@ -56,31 +74,31 @@ module _ {L : Tables} {r : Answer} {left : List ℕ} (x : Repaired L r left) whe
   abbrev es : List ℕ
   es = L .edges .numbers
 
-  pub refused-frame : refuses r ≡ true → left ≡ es
-  refused-frame = x .kept
-
   pub only-ends : (length left ≡ length es) × OnlyEnds (edgeAt es) (edgeAt left)
   only-ends =
       by-test (refuses r)
-      (λ t. rw (x .kept t) (refl, λ i. refl))
-      (λ f. (x .mended f .size, x .mended f .frame))
-
-  pub answer-exact : {a : Answer} → Answers L a → r ≡ a
-  answer-exact y = answers-unique (x .answer) y
+      (λ t. rw (refused-frame x t) (refl, λ i. refl))
+      (λ f. (success x f .table .size, success x f .table .frame))
 
   pub tie-named : Obeys L → {i : ℕ} → Smallest (Tied (edgeAt es)) rows i → r ≡ Tie (edgeAt es i .from) i
-  tie-named o l = answer-exact (tie o l)
+  tie-named o l = repaired-unique x (tie o l) .0
 
   pub done-tells : (refuses r ≡ false) ↔ (Obeys L × Before (Tied (edgeAt es)) rows)
-  done-tells = (done-given L (x .answer), λ (o, none). ap refuses (answer-exact (done o none (obeys-mended L o))))
+  done-tells = (
+    λ f. (success x f .obeys, success x f .untied),
+    λ (o, none). ap refuses (repaired-unique x (mended o none (obeys-mended L o)) .0),
+  )
 
   module _ (ok : refuses r ≡ false) where
     -- what the laws of the computed table ask for, and that it is the one that is left
-    is-repaired : left ≡ repaired es rows
-    is-repaired = repaired-left x ok
+    given : Success L r left
+    given = success x ok
 
     obeys : Obeys L
-    obeys = done-tells .0 ok .0
+    obeys = given .obeys
+
+    is-repaired : left ≡ repaired es rows
+    is-repaired = mended-unique (L .edges) (given .table) (obeys-mended L obeys)
 
     has : HasEdges es rows
     has = obeys-lent L obeys .edge-rows
@@ -89,13 +107,13 @@ module _ {L : Tables} {r : Answer} {left : List ℕ} (x : Repaired L r left) whe
     right i h = obeys .edge-rule i h .label .ends
 
     none : (i : ℕ) → i < rows → tied (edgeAt es) i ≡ false
-    none = untied-tells (edgeAt es) rows .1 (done-tells .0 ok .1)
+    none = untied-tells (edgeAt es) rows .1 (given .untied)
 
     pub done-place : r ≡ Done 0 (changed (edgeAt es) (edgeAt left) rows)
-    done-place = answer-exact (done obeys (done-tells .0 ok .1) (x .mended ok))
+    done-place = given .answer
 
     pub done-ends : (i : ℕ) → i < rows → NewEnd (edgeAt es) rows i (edgeAt left i .to)
-    done-ends = x .mended ok .ends
+    done-ends = given .table .ends
 
     pub done-one : (c t : ℕ) → Stay (edgeAt es) rows c t → OneLatest (edgeAt es) (edgeAt left) rows c t
     done-one = rw is-repaired (left-one es rows has right none)
@@ -152,10 +170,5 @@ module _ {L : Tables} {r : Answer} {left : List ℕ} (x : Repaired L r left) whe
 
     pub done-again : Repaired (withEdges L left) (Done 0 0) left
     done-again =
-        record {
-          answer =
-              subst (λ n. Answers (withEdges L left) (Done 0 n)) (changed-none (edgeAt left) rows)
-              (done obeys-still untied-still mended-still);
-          kept = λ t. refl;
-          mended = λ f. mended-still;
-        }
+        subst (λ n. Repaired (withEdges L left) (Done 0 n) left) (changed-none (edgeAt left) rows)
+        (mended obeys-still untied-still mended-still)

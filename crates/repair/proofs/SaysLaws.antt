@@ -10,24 +10,37 @@ use Rattle.ground.proofs.SumLaws.{sum-zero}
 use Rattle.answers.specs.declared.Answer.{Answer}
 use Rattle.answers.specs.declared.Answer.the-variants.{Done, Tie}
 use Rattle.answers.specs.Numbers.{refuses}
+use Rattle.tables.specs.declared.label.Label.{Label}
 use Rattle.tables.specs.Tables.{EdgeRow, edgeAt, Tables}
+use Rattle.tables.specs.Labels.{labelOf}
 use Rattle.tables.specs.Rows.{HasEdges}
 use Rattle.tables.specs.Rules.{mostEdges}
 use Rattle.tables.specs.Says.{historySays}
+use Rattle.tables.proofs.LabelLaws.{label-from}
 use Rattle.tables.proofs.GivesLaws.{obeys-tells}
 use Rattle.history.proofs.RuledLaws.{obeys-lent}
-use Rattle.repair.specs.Ends.{tied, newEnd, repaired, changed}
-use Rattle.repair.specs.Steps.{Written}
-use Rattle.repair.specs.Says.{settleSays, settleLeaves, repairSays, repairLeaves, Settled, Outcome}
+use Rattle.repair.specs.Ends.{tied, newEnd, repaired}
+use Rattle.repair.specs.Repaired.{changed}
+use Rattle.repair.specs.Steps.{EndsStored}
+use Rattle.repair.specs.Says.{tieAt, settleSays, settleLeaves, repairSays, repairLeaves, Settled, Outcome}
 use Rattle.repair.proofs.StepLaws.{changes-differ}
 
 -- the first tie is a row, or there is none
 module _ (es : List ℕ) (m : ℕ) {row : ℕ} (er : row ≡ least (tied (edgeAt es)) m) where
-  pub on-tie : {t : ℕ} → row < m → t ≡ edgeAt es row .from → Settled es m (Tie t row) es
+  pub on-tie : row < m → Settled es m (tieAt es row) es
   unfolding settleSays settleLeaves
-  on-tie h et = record { answer = simp (← er, lt-ltb row m h, ← et); table = simp (← er, lt-ltb row m h) }
+  on-tie h = record { answer = simp (← er, lt-ltb row m h); table = simp (← er, lt-ltb row m h) }
 
-  pub on-mend : {n : ℕ} {left : List ℕ} → HasEdges es m → m ≤ row → Written es (newEnd (edgeAt es) m) m n left
+  pub on-label : {l : Label} → row < m → l ≡ labelOf (edgeAt es row .from) (edgeAt es row .to)
+      → Settled es m (Tie (l .from) row) es
+  on-label h el = rw (label-from _ _ _ el) (on-tie h)
+
+  pub on-repaired : {left : List ℕ} → m ≤ row → left ≡ repaired es m
+      → Settled es m (Done 0 (changed (edgeAt es) (edgeAt left) m)) left
+  unfolding settleSays settleLeaves
+  on-repaired h el = record { answer = simp (← er, le-ltb row m h, el); table = simp (← er, le-ltb row m h) el }
+
+  pub on-mend : {n : ℕ} {left : List ℕ} → HasEdges es m → m ≤ row → EndsStored es (newEnd (edgeAt es) m) m n left
       → Settled es m (Done 0 n) left
   unfolding settleSays settleLeaves repaired
   on-mend has h x =
@@ -51,12 +64,6 @@ module _ (L : Tables) {r : Answer} (er : r ≡ historySays L) where
     rows-lent =
         let o = obeys-tells L .0 (ap refuses (sym er) ∙ f) in
         (obeys-lent L o .edge-rows, o .sizes .edges .most)
-
--- of m rows of which none is tied the count is said
-pub untied-settle : (es : List ℕ) (m : ℕ) → m ≤ least (tied (edgeAt es)) m
-    → settleSays es m ≡ Done 0 (changed (edgeAt es) (edgeAt (repaired es m)) m)
-unfolding settleSays
-untied-settle es m none = rw (le-ltb (least (tied (edgeAt es)) m) m none)
 
 -- no row of a table differs from itself
 pub changed-none : (edge : ℕ → EdgeRow) (m : ℕ) → changed edge edge m ≡ 0

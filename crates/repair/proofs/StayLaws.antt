@@ -6,18 +6,19 @@ use native.Mathlib.Omega.{arith}
 use Rattle.ground.proofs.LeastLaws.{not-lt→le, Greatest, greatest-exists}
 use Rattle.tables.specs.Tables.{EdgeRow}
 use Rattle.history.specs.Faults.{Into}
-use Rattle.repair.specs.Ends.{SameStart, Row, lastEnd, newEnd}
-use Rattle.repair.specs.Stays.{OnlyEnds, Stay, Latest, OneLatest}
-use Rattle.repair.proofs.BoundLaws.{Some, some-dec, last-upper, same-child, same-from, row-before, row-after}
-use Rattle.repair.proofs.BoundLaws.{next-same, last-same}
-use Rattle.repair.proofs.NewEndLaws.{new-clear, clear-new, new-le-last}
+use Rattle.repair.specs.Repaired.{SameStart, RowInto, OnlyEnds}
+use Rattle.repair.specs.Ends.{lastEnd, newEnd}
+use Rattle.repair.specs.Stays.{Stay, Latest, OneLatest}
+use Rattle.repair.proofs.BoundLaws.{SomeRow, some-row-dec, last-upper, same-child, same-from, row-before}
+use Rattle.repair.proofs.BoundLaws.{row-after, next-same, last-same}
+use Rattle.repair.proofs.NewEndLaws.{new-alone, alone-new, new-le-last}
 
 -- where a row into c started up to t, one of those started last
 module _ (edge : ℕ → EdgeRow) (m c t : ℕ) where
-  abbrev Starts : ℕ → Type 0
-  Starts = Some edge c (λ x. x .from) m
+  abbrev IsStart : ℕ → Type 0
+  IsStart = SomeRow edge c (λ x. x .from) m
 
-  latest-at : (s : ℕ) → Greatest Starts (suc t) s → (i : ℕ) × Latest edge m c t i
+  latest-at : (s : ℕ) → Greatest IsStart (suc t) s → (i : ℕ) × Latest edge m c t i
   latest-at s (b, (i, r, p), above) = (
     i,
     record {
@@ -27,12 +28,12 @@ module _ (edge : ℕ → EdgeRow) (m c t : ℕ) where
     },
   )
 
-  latest-exists : (j : ℕ) → Row edge m c j → edge j .from ≤ t → (i : ℕ) × Latest edge m c t i
+  latest-exists : (j : ℕ) → RowInto edge m c j → edge j .from ≤ t → (i : ℕ) × Latest edge m c t i
   latest-exists j (h, q) l =
       ⊎-elim
       (λ (s, g). latest-at s g)
       (λ none. absurd (none (edge j .from) (omega arith) (j, h, (q, refl))))
-      (greatest-exists Starts (some-dec edge c (λ x. x .from) m) (suc t))
+      (greatest-exists IsStart (some-row-dec edge c (λ x. x .from) m) (suc t))
 
 -- rows e that become d: only ends change, and the m rows have their new ends
 pub record NewEnds (e d : ℕ → EdgeRow) (m : ℕ) : Type 0 where
@@ -47,20 +48,20 @@ module _ (e d : ℕ → EdgeRow) (m : ℕ) (x : NewEnds e d m) (c : ℕ) where
       record {
         row = r;
         started = omega (arith, f .force .0, same-from e d (x .frame) i);
-        last = λ j q h. not-lt→le (λ l. let g = new-clear e m c i r t reached j q l in omega arith);
+        last = λ j q h. not-lt→le (λ l. let g = new-alone e m c i r t reached j q l in omega arith);
       }
 
   latest-in-force : (t i : ℕ) → t ≤ lastEnd e c m → Latest e m c t i → Into m d t c i
   latest-in-force t i h l =
       let (row, into) = row-after e d (x .frame) m c i (l .row) in
-      let reached = clear-new e m c i (l .row) t h clear in
+      let reached = alone-new e m c i (l .row) t h clear in
       record {
         row = row;
         into = into;
         force = (omega (arith, same-from e d (x .frame) i, l .started), omega (arith, x .ends i row));
       }
     where
-      clear : (j : ℕ) → Row e m c j → e i .from < e j .from → t < e j .from
+      clear : (j : ℕ) → RowInto e m c j → e i .from < e j .from → t < e j .from
       clear j q g = not-lt→le (λ b. let k = l .last j q (omega arith) in omega arith)
 
   pub one-latest : ((i j : ℕ) → i < m → j < m → SameStart e i j → i ≡ j) → (t : ℕ) → Stay e m c t → OneLatest e d m c t
@@ -85,10 +86,10 @@ module _ (e d : ℕ → EdgeRow) (m : ℕ) (x : NewEnds e d m) (c : ℕ) where
   pub last-stays : ((i : ℕ) → i < m → e i .from ≤ e i .to) → lastEnd d c m ≡ lastEnd e c m
   last-stays right = last-same e d (x .frame) c m down up
     where
-      down : (i : ℕ) → Row e m c i → d i .to ≤ lastEnd e c m
+      down : (i : ℕ) → RowInto e m c i → d i .to ≤ lastEnd e c m
       down i r = omega (arith, x .ends i (r .0), new-le-last e m c i r right)
 
-      up : (i : ℕ) → Row e m c i → e i .to ≤ lastEnd d c m
+      up : (i : ℕ) → RowInto e m c i → e i .to ≤ lastEnd d c m
       up i r =
           let own = last-upper e c m i r in
           let (k, l) = latest-exists e m c (lastEnd e c m) i r (omega (arith, right i (r .0))) in

@@ -11,10 +11,15 @@ use borrow.Author.Tests.{eq-eqb, ne-eqb}
 use Rattle.ground.specs.Sums.{sum, bit}
 use Rattle.ground.proofs.ListLaws.{set-below}
 use Rattle.ground.proofs.SumLaws.{sum-more, sum-ext, count-le}
+use Rattle.tables.specs.declared.label.End.{End}
+use Rattle.tables.specs.declared.label.Label.{Label}
 use Rattle.tables.specs.Tables.{EdgeRow, edgeAt, withEnd}
+use Rattle.tables.specs.Labels.{instantOf, endOf, labelOf}
 use Rattle.tables.specs.Rows.{HasEdges, setEnd}
-use Rattle.repair.specs.Ends.{newEnd, withEnds, repaired, changed}
-use Rattle.repair.specs.Steps.{Found, changes, Written}
+use Rattle.tables.proofs.LabelLaws.{end-to, label-to}
+use Rattle.repair.specs.Ends.{newEnd, withEnds, repaired}
+use Rattle.repair.specs.Repaired.{changed}
+use Rattle.repair.specs.Steps.{Found, changes, EndsStored}
 use Rattle.repair.proofs.StoreLaws.{ends-more, ends-rest, ends-done, ends-same}
 
 -- the finding loop at its beginning, and after a turn that stored at i
@@ -31,37 +36,38 @@ found-more f cur i {v = v} h x e =
     }
 
 -- the writing loop at its beginning
-pub written-none : (es : List ℕ) (f : ℕ → ℕ) → Written es f 0 0 es
+pub stored-none : (es : List ℕ) (f : ℕ → ℕ) → EndsStored es f 0 0 es
 unfolding changes sum withEnds
-written-none es f = record { number = refl; table = refl }
+stored-none es f = record { number = refl; table = refl }
 
 -- and after a turn: the rows below i were written, row i was not, and it had another end, or had not
-module _ (es : List ℕ) (f : ℕ → ℕ) (i : ℕ) {cur left : List ℕ} {a old : ℕ} (x : Written es f i old cur)
-    (ea : a ≡ edgeAt cur i .to) (el : left ≡ setEnd cur i (f i)) where
+module _ (es : List ℕ) (f : ℕ → ℕ) (i : ℕ) {cur left : List ℕ} {l : Label} {v : End} {a old : ℕ}
+    (x : EndsStored es f i old cur) (er : l ≡ labelOf (edgeAt cur i .from) (edgeAt cur i .to))
+    (ea : a ≡ instantOf (l .end)) (ev : v ≡ endOf (f i)) (el : left ≡ setEnd cur i (instantOf v)) where
   had : a ≡ edgeAt es i .to
-  had = ea ∙ rw (x .table, ends-rest es f i i (omega arith))
+  had = ea ∙ label-to _ _ _ er ∙ rw (x .table, ends-rest es f i i (omega arith))
 
   more : left ≡ withEnds es f (i + 1)
-  more = cc (ends-more es f i, x .table)
+  more = cc (ends-more es f i, x .table, end-to v (f i) ev)
 
-  pub written-hit : {new : ℕ} → (a ≡ f i → ⊥) → new ≡ old + 1 → Written es f (i + 1) new left
+  pub stored-hit : {new : ℕ} → (a ≡ f i → ⊥) → new ≡ old + 1 → EndsStored es f (i + 1) new left
   unfolding changes
-  written-hit h e = record { number = simp (sum-more, ← had, ne-eqb a (f i) h, ← x .number) e; table = more }
+  stored-hit h e = record { number = simp (sum-more, ← had, ne-eqb a (f i) h, ← x .number) e; table = more }
 
-  pub written-miss : {new : ℕ} → a ≡ f i → new ≡ old → Written es f (i + 1) new left
+  pub stored-miss : {new : ℕ} → a ≡ f i → new ≡ old → EndsStored es f (i + 1) new left
   unfolding changes
-  written-miss h e =
+  stored-miss h e =
       record { number = simp (sum-more, ← had, eq-eqb a (f i) h, ← x .number) (omega arith); table = more }
 
-pub written-le : {es : List ℕ} {f : ℕ → ℕ} {m n : ℕ} {left : List ℕ} → Written es f m n left → n ≤ m
+pub stored-le : {es : List ℕ} {f : ℕ → ℕ} {m n : ℕ} {left : List ℕ} → EndsStored es f m n left → n ≤ m
 unfolding changes
-written-le {es} {f} {m} x = omega (arith, x .number, count-le (λ i. not (eqb (edgeAt es i .to) (f i))) m)
+stored-le {es} {f} {m} x = omega (arith, x .number, count-le (λ i. not (eqb (edgeAt es i .to) (f i))) m)
 
 -- ends that agree are written alike
-pub written-same : (es : List ℕ) (f g : ℕ → ℕ) (m : ℕ) {n : ℕ} {left : List ℕ}
-    → ((i : ℕ) → i < m → f i ≡ g i) → Written es f m n left → Written es g m n left
+pub stored-same : (es : List ℕ) (f g : ℕ → ℕ) (m : ℕ) {n : ℕ} {left : List ℕ}
+    → ((i : ℕ) → i < m → f i ≡ g i) → EndsStored es f m n left → EndsStored es g m n left
 unfolding changes
-written-same es f g m same x =
+stored-same es f g m same x =
     record {
       number = x .number ∙ sum-ext _ _ m (λ i h. ap (λ v. bit (not (eqb (edgeAt es i .to) v))) (same i h));
       table = x .table ∙ ends-same es f g m same;

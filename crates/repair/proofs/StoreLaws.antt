@@ -10,7 +10,7 @@ use Rattle.tables.specs.Tables.{EdgeRow, edgeAt, withEnd}
 use Rattle.tables.specs.Rows.{HasEdges, setEnd}
 use Rattle.tables.proofs.RowLaws.{end-same, end-other, end-length, end-twice, end-comm}
 use Rattle.repair.specs.Ends.{withEnds}
-use Rattle.repair.specs.Stays.{OnlyEnds}
+use Rattle.repair.specs.Repaired.{OnlyEnds}
 
 -- a row whose end was stored differs in its end alone
 end-own : (e d : EdgeRow) (v : ℕ) → d ≡ withEnd e v → d ≡ withEnd e (d .to)

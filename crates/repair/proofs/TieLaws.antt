@@ -11,7 +11,8 @@ use Rattle.ground.specs.Searches.{Passes}
 use Rattle.ground.proofs.TestLaws.{tells-and, tells-eq, tells-fail, tells-fails}
 use Rattle.ground.proofs.LeastLaws.{not-lt→le, any-tells}
 use Rattle.tables.specs.Tables.{EdgeRow}
-use Rattle.repair.specs.Ends.{SameStart, Tied, sameStart, tied}
+use Rattle.repair.specs.Repaired.{SameStart, Tied}
+use Rattle.repair.specs.Ends.{sameStart, tied}
 
 module _ (edge : ℕ → EdgeRow) where
   same-start-tells : (i j : ℕ) → Tells (sameStart edge i j) (SameStart edge i j)

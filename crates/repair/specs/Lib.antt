@@ -1,5 +1,5 @@
-pub mod Ends
+pub mod Repaired
 pub mod Stays
+pub mod Ends
 pub mod Steps
 pub mod Says
-pub mod Answers

@@ -1,5 +1,5 @@
--- What repair answers, and what it leaves in the containment table, as computed. proofs/AnswersLaws.antt ties them to
--- the words of Answers.antt.
+-- What repair answers, and what it leaves in the containment table, computed. proofs/RepairedLaws.antt ties them to the
+-- words of specs/Repaired.antt.
 --   tieAt                      the tie that row i names
 --   settleSays, settleLeaves   of m rows that obey the rules: the tie, or the repair
 --   repairSays, repairLeaves   of any tables
@@ -15,7 +15,8 @@ use Rattle.answers.specs.Numbers.{refuses}
 use Rattle.answers.specs.Refusals.{_⨾_}
 use Rattle.tables.specs.Tables.{edgeAt, Tables}
 use Rattle.tables.specs.Says.{smallest, historySays}
-use Rattle.repair.specs.Ends.{tied, repaired, changed}
+use Rattle.repair.specs.Repaired.{changed}
+use Rattle.repair.specs.Ends.{tied, repaired}
 
 abbrev pub tieAt : List ℕ → ℕ → Answer
 tieAt es i = Tie (edgeAt es i .from) i

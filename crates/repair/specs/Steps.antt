@@ -1,10 +1,10 @@
 -- The steps of the code: the new ends are found, then written. No public promise cites these; proofs/StepLaws.antt
 -- shows that with the new ends they come to `repaired` and `changed`.
---   Bounded   the next start after s among the first m rows into c, or 0 for none, and their largest end
---   nth       number i of a list
---   Found     the list begins with f 0, f 1, .., f (m - 1), and goes on as before
---   changes   how many of the first m rows have another end than f says
---   Written   the table with the ends that f says in its first m rows, n of which had another
+--   Bounded      the next start after s among the first m rows into c, or 0 for none, and their largest end
+--   nth          number i of a list
+--   Found        the list begins with f 0, f 1, .., f (m - 1), and goes on as before
+--   changes      how many of the first m rows have another end than f says
+--   EndsStored   the table with the ends that f says in its first m rows, n of which had another
 -- Assumes nothing.
 use mathlib.Core.Path.{_≡_}
 use mathlib.Core.Bool.{not}
@@ -30,6 +30,6 @@ pub record Found (f : ℕ → ℕ) (m : ℕ) (before after : List ℕ) : Type 0 
 unfoldable pub changes : (ℕ → EdgeRow) → (ℕ → ℕ) → ℕ → ℕ
 changes edge f = count (λ i. not (eqb (edge i .to) (f i)))
 
-pub record Written (es : List ℕ) (f : ℕ → ℕ) (m n : ℕ) (left : List ℕ) : Type 0 where
+pub record EndsStored (es : List ℕ) (f : ℕ → ℕ) (m n : ℕ) (left : List ℕ) : Type 0 where
   pub number : n ≡ changes (edgeAt es) f m
   pub table : left ≡ withEnds es f m

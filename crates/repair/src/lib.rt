@@ -8,11 +8,11 @@ ghost use Rattle.tables.specs.Rows.{HasEdges};
 ghost use Rattle.tables.specs.Tables.{lent};
 ghost use Rattle.tables.specs.Rules.{mostEdges};
 ghost use Rattle.repair.specs.Says.{Settled};
-ghost use Rattle.repair.specs.Answers.{Repaired};
+ghost use Rattle.repair.specs.Repaired.{Repaired};
 use answers::Answer;
 use mend::mend;
 use tables::judge::judge_history;
-use tables::rows::edge_from;
+use tables::rows::edge_label;
 use tie::first_tie;
 
 // Code 22, or the repair of m rows that obey the rules.
@@ -22,9 +22,9 @@ fn settle(edges: &mut [u32], m: usize) -> Answer
 {
     let row = first_tie(edges, m);
     if row < m {
-        let from = edge_from(edges, row);
+        let label = edge_label(edges, row);
         let place = row as u32;
-        return Answer::Tie(from, place);
+        return Answer::Tie(label.from, place);
     }
     let place = mend(edges, m) as u32;
     Answer::Done(0, place)

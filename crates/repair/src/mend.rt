@@ -9,12 +9,12 @@ ghost use Rattle.tables.specs.Tables.{edgeAt};
 ghost use Rattle.tables.specs.Rows.{HasEdges};
 ghost use Rattle.tables.specs.Rules.{mostEdges};
 ghost use Rattle.repair.specs.Ends.{sooner, endBefore, newEnd};
-ghost use Rattle.repair.specs.Steps.{Bounded, nth, Found, Written};
+ghost use Rattle.repair.specs.Steps.{Bounded, nth, Found, EndsStored};
 use ground::larger;
 use ground::smaller;
+use tables::label::End;
 use tables::rows::edge_child;
-use tables::rows::edge_from;
-use tables::rows::edge_to;
+use tables::rows::edge_label;
 use tables::rows::set_edge_end;
 use tables::sizes::MOST_EDGES;
 
@@ -48,8 +48,10 @@ fn find_bounds(edges: &[u32], m: usize, c: u32, s: u32) -> Bounds
     let mut i = 0;
     while i < m {
         if edge_child(edges, i) == c {
-            next = next_after(s, edge_from(edges, i), next);
-            last = larger(last, edge_to(edges, i));
+            let label = edge_label(edges, i);
+            let end = label.end;
+            next = next_after(s, label.from, next);
+            last = larger(last, end.instant());
         }
         i += 1;
     }
@@ -71,7 +73,8 @@ fn new_end(edges: &[u32], m: usize, i: usize) -> u32
     requires { ⌜ HasEdges (now edges) m × HasEdges (now edges) (i + 1) ⌝ }
     ensures { λ r. ⌜ r ≡ newEnd (edgeAt (now (edges .entry))) m i ⌝ }
 {
-    let found = find_bounds(edges, m, edge_child(edges, i), edge_from(edges, i));
+    let label = edge_label(edges, i);
+    let found = find_bounds(edges, m, edge_child(edges, i), label.from);
     end_before(found.next, found.last)
 }
 
@@ -90,16 +93,18 @@ fn find_ends(edges: &[u32], m: usize, ends: &mut [u32])
 // Gives the m rows these ends, and says how many of them had another.
 fn write_ends(edges: &mut [u32], m: usize, ends: &[u32]) -> usize
     requires { ⌜ HasEdges (now edges) m × (m ≤ length (now ends)) ⌝ }
-    ensures { λ r. ⌜ Written (now (edges .entry)) (nth (now (ends .entry))) m r (now (edges .exit)) ⌝ }
+    ensures { λ r. ⌜ EndsStored (now (edges .entry)) (nth (now (ends .entry))) m r (now (edges .exit)) ⌝ }
 {
     let mut n: usize = 0;
     let mut i = 0;
     while i < m {
         let to = ends[i];
-        if edge_to(edges, i) != to {
+        let label = edge_label(edges, i);
+        let end = label.end;
+        if end.instant() != to {
             n += 1;
         }
-        set_edge_end(edges, i, to);
+        set_edge_end(edges, i, End::of(to));
         i += 1;
     }
     n
@@ -108,7 +113,7 @@ fn write_ends(edges: &mut [u32], m: usize, ends: &[u32]) -> usize
 // Repairs the m rows, and says how many of them got another end.
 pub fn mend(edges: &mut [u32], m: usize) -> usize
     requires { ⌜ HasEdges (now edges) m × (m ≤ mostEdges) ⌝ }
-    ensures { λ r. ⌜ Written (now (edges .entry)) (newEnd (edgeAt (now (edges .entry))) m) m r
+    ensures { λ r. ⌜ EndsStored (now (edges .entry)) (newEnd (edgeAt (now (edges .entry))) m) m r
         (now (edges .exit)) ⌝ }
 {
     let mut ends = [0u32; MOST_EDGES];

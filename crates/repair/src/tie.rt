@@ -6,13 +6,16 @@ ghost use Rattle.tables.specs.Tables.{edgeAt};
 ghost use Rattle.tables.specs.Rows.{HasEdges};
 ghost use Rattle.repair.specs.Ends.{sameStart, tied};
 use tables::rows::edge_child;
-use tables::rows::edge_from;
+use tables::rows::edge_label;
 
 fn same_start(edges: &[u32], i: usize, j: usize) -> bool
     requires { ⌜ HasEdges (now edges) (i + 1) × HasEdges (now edges) (j + 1) ⌝ }
     ensures { λ r. ⌜ r ≡ sameStart (edgeAt (now (edges .entry))) i j ⌝ }
 {
-    (edge_child(edges, j) == edge_child(edges, i)) & (edge_from(edges, j) == edge_from(edges, i))
+    let one_child = edge_child(edges, j) == edge_child(edges, i);
+    let a = edge_label(edges, j);
+    let b = edge_label(edges, i);
+    one_child & (a.from == b.from)
 }
 
 // The smallest of m rows that shares its child and its start with a smaller row, or m: a scan over pairs of rows, left
@@ -21,16 +24,18 @@ pub fn first_tie(edges: &[u32], m: usize) -> usize
     requires { ⌜ HasEdges (now edges) m ⌝ }
     ensures { λ r. ⌜ r ≡ least (tied (edgeAt (now (edges .entry)))) m ⌝ }
 {
+    let mut first = m;
     let mut i = 0;
     'rows: while i < m {
         let mut j = 0;
         while j < i {
             if same_start(edges, i, j) {
+                first = i;
                 break 'rows;
             }
             j += 1;
         }
         i += 1;
     }
-    i
+    first
 }

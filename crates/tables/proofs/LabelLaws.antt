@@ -7,6 +7,7 @@ use borrow.Author.Tests.{eqb-true}
 use Rattle.ground.specs.Tests.{Tells}
 use Rattle.ground.proofs.TestLaws.{tells-and, tells-le}
 use Rattle.tables.specs.declared.label.Label.{Label}
+use Rattle.tables.specs.declared.label.End.{End}
 use Rattle.tables.specs.declared.label.End.the-variants.{At, Current}
 use Rattle.tables.specs.Tables.{Now, During}
 use Rattle.tables.specs.Labels.{during, instantOf, endOf, labelOf}
@@ -23,8 +24,18 @@ instant-end to = go (eqb to Now) refl
     go true e = sym (eqb-true to Now e)
     go false e = refl
 
--- a label that a row's numbers mean is in force when they say so
+-- what an end and a label that numbers mean say of the numbers
+pub end-to : (e : End) (to : ℕ) → e ≡ endOf to → instantOf e ≡ to
+end-to e to q = ap instantOf q ∙ instant-end to
+
+module _ (l : Label) (from to : ℕ) (e : l ≡ labelOf from to) where
+  pub label-from : l .from ≡ from
+  label-from = ap (λ (x : Label). x .from) e
+
+  pub label-to : instantOf (l .end) ≡ to
+  label-to = end-to (l .end) to (ap (λ (x : Label). x .end) e)
+
+-- such a label is in force when they say so
 pub label-during : (l : Label) (from to t : ℕ) → l ≡ labelOf from to
     → during (l .from) (instantOf (l .end)) t ≡ during from to t
-label-during l from to t e =
-    ap (λ (x : Label). during (x .from) (instantOf (x .end)) t) e ∙ ap (λ (x : ℕ). during from x t) (instant-end to)
+label-during l from to t e = rw (label-from l from to e, label-to l from to e)

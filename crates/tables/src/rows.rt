@@ -1,9 +1,10 @@
 // The accessors: with specs/Rows.antt all that knows how many numbers a row has.
 ghost use mathlib.Core.Path.{_≡_};
 ghost use Prim.Native.Nat.{_+_, _<_};
-ghost use Rattle.tables.specs.Labels.{during, labelOf};
+ghost use Rattle.tables.specs.Labels.{during, instantOf, labelOf};
 ghost use Rattle.tables.specs.Tables.{cellAt, nodeAt, edgeAt, refAt};
 ghost use Rattle.tables.specs.Rows.{fromAt, toAt, sideOf, setEnd, setEdge, HasRows, HasNodes, HasEdges, HasRefs};
+use super::label::End;
 use super::label::Label;
 
 pub const NODE_WIDTH: usize = 3;
@@ -75,20 +76,6 @@ pub fn edge_child(edges: &[u32], i: usize) -> u32
     cell_at(edges, EDGE_WIDTH, i, 1)
 }
 
-pub fn edge_from(edges: &[u32], i: usize) -> u32
-    requires { ⌜ HasEdges (now edges) (i + 1) ⌝ }
-    ensures { λ r. ⌜ r ≡ edgeAt (now (edges .entry)) i .from ⌝ }
-{
-    cell_at(edges, EDGE_WIDTH, i, 2)
-}
-
-pub fn edge_to(edges: &[u32], i: usize) -> u32
-    requires { ⌜ HasEdges (now edges) (i + 1) ⌝ }
-    ensures { λ r. ⌜ r ≡ edgeAt (now (edges .entry)) i .to ⌝ }
-{
-    cell_at(edges, EDGE_WIDTH, i, 3)
-}
-
 pub fn edge_label(edges: &[u32], i: usize) -> Label
     requires { ⌜ HasEdges (now edges) (i + 1) ⌝ }
     ensures { λ r. ⌜ r ≡ labelOf (edgeAt (now (edges .entry)) i .from) (edgeAt (now (edges .entry)) i .to) ⌝ }
@@ -109,11 +96,11 @@ pub fn set_edge(edges: &mut [u32], i: usize, parent: u32, child: u32, from: u32,
     edges[row + 3] = to;
 }
 
-pub fn set_edge_end(edges: &mut [u32], i: usize, to: u32)
+pub fn set_edge_end(edges: &mut [u32], i: usize, end: End)
     requires { ⌜ HasEdges (now edges) (i + 1) ⌝ }
-    ensures { λ _. ⌜ now (edges .exit) ≡ setEnd (now (edges .entry)) i to ⌝ }
+    ensures { λ _. ⌜ now (edges .exit) ≡ setEnd (now (edges .entry)) i (instantOf end) ⌝ }
 {
-    edges[i * EDGE_WIDTH + 3] = to;
+    edges[i * EDGE_WIDTH + 3] = end.instant();
 }
 
 pub fn edge_in_force(edges: &[u32], i: usize, t: u32) -> bool

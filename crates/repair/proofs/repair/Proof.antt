@@ -3,7 +3,7 @@ use mathlib.Core.Path.{_≡_, sym, _∙_}
 use mathlib.Core.Bool.{false}
 use Rattle.answers.specs.Numbers.{refuses}
 use Rattle.repair.proofs.SaysLaws.{on-refusal, on-rows, rows-lent}
-use Rattle.repair.proofs.AnswersLaws.{repaired-of}
+use Rattle.repair.proofs.RepairedLaws.{repaired-of}
 use borrow.Author.Needs.{needs}
 use Rattle.repair.proofs.repair.Statement.{statement}
 use Rattle.repair.proofs.repair.Tie as tie

@@ -1,6 +1,6 @@
 use native.Mathlib.Omega.{arith}
-use Rattle.repair.proofs.StepLaws.{written-le}
-use Rattle.repair.proofs.SaysLaws.{on-tie, on-mend}
+use Rattle.repair.proofs.StepLaws.{stored-le}
+use Rattle.repair.proofs.SaysLaws.{on-label, on-mend}
 use borrow.Author.Needs.{needs}
 use Rattle.repair.proofs.settle.Statement.{statement}
 use Rattle.repair.proofs.settle.Tie as tie
@@ -8,8 +8,8 @@ use Rattle.repair.proofs.settle.Tie as tie
 first-tie-requires : tie.Need-first-tie-requires
 first-tie-requires c κs = search needs
 
-edge-from-requires : tie.Need-edge-from-requires
-edge-from-requires c κs = search needs
+edge-label-requires : tie.Need-edge-label-requires
+edge-label-requires c κs = search needs
 
 cast-place : tie.Need-cast-place
 cast-place c = search needs
@@ -20,13 +20,13 @@ same-length c = search needs
 returns : tie.Need-returns
 returns c =
     let found = c .before .before in
-    on-tie _ _ (found .before .first-tie .ensures) (found .if1 .taken) (c .edge-from .ensures)
+    on-label _ _ (found .before .first-tie .ensures) (found .if1 .taken) (c .edge-label .ensures)
 
 mend-requires : tie.Need-mend-requires
 mend-requires c κs = search needs
 
 cast-place-2 : tie.Need-cast-place-2
-cast-place-2 c = omega (arith, written-le (c .before .before .mend .ensures))
+cast-place-2 c = omega (arith, stored-le (c .before .before .mend .ensures))
 
 same-length-2 : tie.Need-same-length-2
 same-length-2 c = search needs
@@ -42,7 +42,7 @@ settle-spec =
     tie.close
     (tie.spec
     first-tie-requires
-    edge-from-requires
+    edge-label-requires
     cast-place
     same-length
     returns

@@ -22,14 +22,14 @@ loop-holds c = (search needs, bounded-none _ _ _)
 edge-child-requires : tie.Need-edge-child-requires Inv-loop μ-loop
 edge-child-requires c κs = search needs
 
-edge-from-requires : tie.Need-edge-from-requires Inv-loop μ-loop
-edge-from-requires c κs = search needs
+edge-label-requires : tie.Need-edge-label-requires Inv-loop μ-loop
+edge-label-requires c κs = search needs
 
 next-after-requires : tie.Need-next-after-requires Inv-loop μ-loop
 next-after-requires c κs = search needs
 
-edge-to-requires : tie.Need-edge-to-requires Inv-loop μ-loop
-edge-to-requires c κs = search needs
+instant-requires : tie.Need-instant-requires Inv-loop μ-loop
+instant-requires c κs = search needs
 
 larger-requires : tie.Need-larger-requires Inv-loop μ-loop
 larger-requires c κs = search needs
@@ -65,9 +65,9 @@ find-bounds-spec =
     μ-loop
     loop-holds
     edge-child-requires
-    edge-from-requires
+    edge-label-requires
     next-after-requires
-    edge-to-requires
+    instant-requires
     larger-requires
     add-i
     loop-less

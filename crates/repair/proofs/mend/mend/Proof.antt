@@ -1,4 +1,4 @@
-use Rattle.repair.proofs.StepLaws.{written-same}
+use Rattle.repair.proofs.StepLaws.{stored-same}
 use borrow.Author.Needs.{needs}
 use Rattle.repair.proofs.mend.mend.Statement.{statement}
 use Rattle.repair.proofs.mend.mend.Tie as tie
@@ -22,7 +22,7 @@ returns : tie.Need-returns
 returns c =
     let write = c .before .before in
     let find = write .before .before .before .before in
-    written-same _ _ _ _ (find .find-ends .ensures .ends) (write .write-ends .ensures)
+    stored-same _ _ _ _ (find .find-ends .ensures .ends) (write .write-ends .ensures)
 
 pub mend-spec : {M : Type 1} → statement M
 mend-spec =

@@ -5,8 +5,8 @@ use mathlib.Core.Path.{_≡_}
 use mathlib.Core.Logic.{⊎-elim}
 use mathlib.Core.List.{List}
 use lib.ListN.{length}
-use Rattle.repair.specs.Steps.{nth, Written}
-use Rattle.repair.proofs.StepLaws.{written-none, written-hit, written-miss, written-le}
+use Rattle.repair.specs.Steps.{nth, EndsStored}
+use Rattle.repair.proofs.StepLaws.{stored-none, stored-hit, stored-miss, stored-le}
 use Rattle.repair.proofs.mend.write_ends.Statement.{statement}
 use Rattle.repair.proofs.mend.write_ends.Tie as tie
 
@@ -14,7 +14,7 @@ use Rattle.repair.proofs.mend.write_ends.Tie as tie
 record Turn (edges₀ : List ℕ) (m : ℕ) (ends edges : List ℕ) (n i : ℕ) : Type 0 where
   within : i ≤ m
   size : length edges ≡ length edges₀
-  done : Written edges₀ (nth ends) i n edges
+  done : EndsStored edges₀ (nth ends) i n edges
 
 abbrev Inv-loop : tie.InvT-loop
 Inv-loop edges₀ m ends n₀ i₀ edges n i = Turn edges₀ m ends edges n i
@@ -22,12 +22,12 @@ Inv-loop edges₀ m ends n₀ i₀ edges n i = Turn edges₀ m ends edges n i
 abbrev μ-loop : tie.MeasureT-loop
 μ-loop edges₀ m ends n₀ i₀ edges n i = m - i
 
--- the row's end is read in a turn of the loop
-abbrev looped : tie.After-edge-to Inv-loop μ-loop → tie.At-loop Inv-loop μ-loop
+-- the row's label is read in a turn of the loop
+abbrev looped : tie.After-edge-label Inv-loop μ-loop → tie.At-loop Inv-loop μ-loop
 looped c = c .before .before .before .before
 
 loop-holds : tie.Need-loop-holds Inv-loop μ-loop
-loop-holds c = record { within = search needs; size = search needs; done = written-none _ _ }
+loop-holds c = record { within = search needs; size = search needs; done = stored-none _ _ }
 
 mul-to : tie.Need-mul-to Inv-loop μ-loop
 mul-to c = search needs
@@ -35,11 +35,17 @@ mul-to c = search needs
 shared-slice-read-to : tie.Need-shared-slice-read-to Inv-loop μ-loop
 shared-slice-read-to c = search needs
 
-edge-to-requires : tie.Need-edge-to-requires Inv-loop μ-loop
-edge-to-requires c κs = search needs
+edge-label-requires : tie.Need-edge-label-requires Inv-loop μ-loop
+edge-label-requires c κs = search needs
+
+instant-requires : tie.Need-instant-requires Inv-loop μ-loop
+instant-requires c κs = search needs
 
 add-n : tie.Need-add-n Inv-loop μ-loop
-add-n c = omega (arith, written-le (looped (c .before) .loop .inv .done))
+add-n c = omega (arith, stored-le (looped (c .before .before) .loop .inv .done))
+
+of-requires : tie.Need-of-requires Inv-loop μ-loop
+of-requires c κs = search needs
 
 set-edge-end-requires : tie.Need-set-edge-end-requires Inv-loop μ-loop
 set-edge-end-requires c κs = search needs
@@ -52,17 +58,22 @@ loop-less c = search needs
 
 loop-again : tie.Need-loop-again Inv-loop μ-loop
 loop-again c =
-    let set = c .before .before .set-edge-end .ensures in
-    let told = c .before .before .before .before in
-    let read = told .before in
+    let stored = c .before .before in
+    let new = stored .before in
+    let told = new .before .before in
+    let asked = told .before in
+    let read = asked .before in
     let inv = looped read .loop .inv .done in
+    let label = read .edge-label .ensures in
+    let end = asked .instant .ensures in
+    let set = stored .set-edge-end .ensures in
     record {
       within = search needs;
-      size = omega arith;
+      size = omega (arith, looped read .loop .inv .size, c .before .edges .given);
       done =
           ⊎-elim
-          (λ w. written-hit _ _ _ inv (read .edge-to .ensures) set (w .0 .taken) (w .1))
-          (λ w. written-miss _ _ _ inv (read .edge-to .ensures) set (w .0 .left) (w .1))
+          (λ w. stored-hit _ _ _ inv label end (new .of .ensures) set (w .0 .taken) (w .1))
+          (λ w. stored-miss _ _ _ inv label end (new .of .ensures) set (w .0 .left) (w .1))
           (told .if1 .came);
     }
 
@@ -83,8 +94,10 @@ write-ends-spec =
     loop-holds
     mul-to
     shared-slice-read-to
-    edge-to-requires
+    edge-label-requires
+    instant-requires
     add-n
+    of-requires
     set-edge-end-requires
     add-i
     loop-less

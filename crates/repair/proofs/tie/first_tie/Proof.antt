@@ -1,5 +1,4 @@
 use borrow.Author.Needs.{needs}
-use native.Mathlib.Omega.{arith}
 use Prim.Native.Nat.{_≤_, _-_}
 use mathlib.Core.Path.{_≡_, sym, _∙_}
 use Rattle.ground.specs.Least.{Before}
@@ -11,17 +10,19 @@ use Rattle.repair.proofs.TieLaws.{tied-found, tied-missed}
 use Rattle.repair.proofs.tie.first_tie.Statement.{statement}
 use Rattle.repair.proofs.tie.first_tie.Tie as tie
 
+-- before turn j, no row below j shares its child and its start with row i, and no tie is found
 abbrev Inv-loop : tie.InvT-loop
-Inv-loop edges m i j₀ j = (j ≤ i) × Before (Passes (sameStart (edgeAt edges) i)) j
+Inv-loop edges m first₀ i j₀ first j = ((first ≡ m) × (j ≤ i)) × Before (Passes (sameStart (edgeAt edges) i)) j
 
 abbrev μ-loop : tie.MeasureT-loop
-μ-loop edges m i j₀ j = i - j
+μ-loop edges m first₀ i j₀ first j = i - j
 
+-- before turn i, no row below i is tied
 abbrev Inv-rows : tie.InvT-rows
-Inv-rows edges m i₀ i = (i ≤ m) × Before (Passes (tied (edgeAt edges))) i
+Inv-rows edges m first₀ i₀ first i = ((first ≡ m) × (i ≤ m)) × Before (Passes (tied (edgeAt edges))) i
 
 abbrev μ-rows : tie.MeasureT-rows
-μ-rows edges m i₀ i = m - i
+μ-rows edges m first₀ i₀ first i = m - i
 
 rows-holds : tie.Need-rows-holds Inv-loop μ-loop Inv-rows μ-rows
 rows-holds c = (search needs, search-none _)
@@ -58,8 +59,8 @@ rows-again c =
 
 returns : tie.Need-returns Inv-loop μ-loop Inv-rows μ-rows
 returns c =
-    let at-end : c .before .rows .i ≡ c .before .before .before .args .m = omega arith in
-    at-end ∙ search-missed _ (c .rows-test .left) (c .before .rows .inv .1)
+    let inv = c .before .rows .inv in
+    inv .0 .0 ∙ search-missed _ (c .rows-test .left) (inv .1)
 
 returns-2 : tie.Need-returns-2 Inv-loop μ-loop Inv-rows μ-rows
 returns-2 c =

@@ -1,3 +1,4 @@
+use Rattle.tables.proofs.LabelLaws.{label-from}
 use borrow.Author.Needs.{needs}
 use Rattle.repair.proofs.tie.same_start.Statement.{statement}
 use Rattle.repair.proofs.tie.same_start.Tie as tie
@@ -8,14 +9,18 @@ edge-child-requires c κs = search needs
 edge-child-requires-2 : tie.Need-edge-child-requires-2
 edge-child-requires-2 c κs = search needs
 
-edge-from-requires : tie.Need-edge-from-requires
-edge-from-requires c κs = search needs
+edge-label-requires : tie.Need-edge-label-requires
+edge-label-requires c κs = search needs
 
-edge-from-requires-2 : tie.Need-edge-from-requires-2
-edge-from-requires-2 c κs = search needs
+edge-label-requires-2 : tie.Need-edge-label-requires-2
+edge-label-requires-2 c κs = search needs
 
 returns : tie.Need-returns
-returns c = cc
+returns c =
+    let second = c .before .before in
+    let a = label-from _ _ _ (second .before .edge-label .ensures) in
+    let b = label-from _ _ _ (second .edge-label2 .ensures) in
+    cc
 
 pub same-start-spec : {M : Type 1} → statement M
 same-start-spec =
@@ -23,6 +28,6 @@ same-start-spec =
     (tie.spec
     edge-child-requires
     edge-child-requires-2
-    edge-from-requires
-    edge-from-requires-2
+    edge-label-requires
+    edge-label-requires-2
     returns)

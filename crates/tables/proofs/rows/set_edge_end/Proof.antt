@@ -3,6 +3,9 @@ use borrow.Author.Needs.{needs}
 use Rattle.tables.proofs.rows.set_edge_end.Statement.{statement}
 use Rattle.tables.proofs.rows.set_edge_end.Tie as tie
 
+instant-requires : tie.Need-instant-requires
+instant-requires c κs = search needs
+
 mul-edges : tie.Need-mul-edges
 mul-edges c = search needs
 
@@ -20,8 +23,16 @@ same-length c = search needs
 
 returns : tie.Need-returns
 unfolding setEnd
-returns c = search needs
+returns c = rw (c .instant .ensures)
 
 pub set-edge-end-spec : {M : Type 1} → statement M
 set-edge-end-spec =
-    tie.close (tie.spec mul-edges add-edges mul-edges-2 slice-write-edges same-length returns)
+    tie.close
+    (tie.spec
+    instant-requires
+    mul-edges
+    add-edges
+    mul-edges-2
+    slice-write-edges
+    same-length
+    returns)
