@@ -1,10 +1,10 @@
 -- A node's children by rising number are each of its children, once. Assumes nothing.
 use mathlib.Core.Path.{_≡_, refl, sym, _∙_}
 use mathlib.Core.Logic.{_≢_, Iff·trans}
-use mathlib.Core.Bool.{Bool, true, false, cond, _&&_, and-false, false≢true}
+use mathlib.Core.Bool.{Bool, true, false, cond, _&&_, and-false}
 use mathlib.Core.List.{List, [], _∷_, _++_}
 use Prim.Native.Nat.{ℕ, zero, suc, _+_, _<_}
-use native.Mathlib.Decide.{decLt}
+use native.Mathlib.Decide.{ℕ-discrete}
 use native.Mathlib.Omega.{arith}
 use lib.Dec.{eqb}
 use borrow.Author.Tests.{eq-eqb, ne-eqb}
@@ -14,13 +14,15 @@ use Rattle.ground.specs.Lists.{All}
 use Rattle.ground.proofs.TestLaws.{by-test, tells-and, tells-eq}
 use Rattle.ground.proofs.LeastLaws.{any-tells}
 use Rattle.ground.proofs.SumLaws.{sum-zero, sum-one}
-use Rattle.tables.specs.Tables.{During, EdgeRow}
-use Rattle.tables.proofs.LabelLaws.{during-tells}
-use Rattle.history.specs.Places.{NodesBelow}
-use Rattle.history.specs.Computed.{isInto}
-use Rattle.snapshot.specs.Snapshot.{below, isChild, childrenAt}
-use Rattle.snapshot.specs.Exact.{occurs, IsChild, Children}
-use Rattle.snapshot.proofs.CountLaws.{occurs-all}
+use Rattle.history.specs.Faults.{History}
+use Rattle.history.specs.Ruled.{Ruled}
+use Rattle.history.specs.Places.{Leads}
+use Rattle.history.proofs.ComputedLaws.{leads-tells, leads-into, into-leads}
+use Rattle.history.proofs.RuledLaws.{ruled-below}
+use Rattle.snapshot.specs.Snapshot.{IsChild}
+use Rattle.snapshot.specs.Says.{below, isChild, childrenOf}
+use Rattle.snapshot.specs.Counts.{occurs}
+use Rattle.snapshot.proofs.CountLaws.{all-append}
 
 -- two tests that tell the same are equal
 pub tells-same : (a b : Bool) {P : Type 0} → Tells a P → Tells b P → a ≡ b
@@ -44,55 +46,48 @@ module _ (p : ℕ → Bool) where
   occurs-below x zero = refl
   occurs-below x (suc k) = rw occurs-append (omega (arith, occurs-below x k, occurs-if (p k) x k))
 
-  below-once : (x k : ℕ) → x < k → p x ≡ true → occurs x (below p k) ≡ 1
-  below-once x k h e =
-      occurs-below x k ∙ sum-one (λ i. bit (p i && eqb i x)) k x h (λ i g d. rw (ne-eqb i x d, and-false (p i)))
-      ∙ rw (e, eq-eqb x x refl)
+  -- another number is not counted, and x is where it passes
+  other : (x i : ℕ) → i ≢ x → bit (p i && eqb i x) ≡ 0
+  other x i d = rw (ne-eqb i x d, and-false (p i))
 
-  below-only : (x k : ℕ) → 0 < occurs x (below p k) → (x < k) × (p x ≡ true)
-  below-only x k h = go (decLt x k)
+  below-occurs : (x k : ℕ) → (p x ≡ true → x < k) → occurs x (below p k) ≡ bit (p x)
+  below-occurs x k inside =
+      occurs-below x k
+      ∙ by-test (p x) (λ e. sum-one _ k x (inside e) (λ i g. other x i) ∙ rw (e, eq-eqb x x refl)) (λ e.
+      sum-zero _ k (λ i g. fails e i (ℕ-discrete i x)) ∙ rw e)
     where
-      -- were x not below k, or did it not pass, no number would count
-      sum-some : ((i : ℕ) → i < k → bit (p i && eqb i x) ≡ 0) → ⊥
-      sum-some z = omega (arith, occurs-below x k, sum-zero (λ i. bit (p i && eqb i x)) k z)
+      fails : p x ≡ false → (i : ℕ) → Dec (i ≡ x) → bit (p i && eqb i x) ≡ 0
+      fails e i (yes q) = rw (q, e)
+      fails e i (no d) = other x i d
 
-      other : (i : ℕ) → i ≢ x → bit (p i && eqb i x) ≡ 0
-      other i d = rw (ne-eqb i x d, and-false (p i))
-
-      fails : p x ≡ false → (i : ℕ) → bit (p i && eqb i x) ≡ 0
-      fails e i =
-          by-test (eqb i x) (λ f. rw (tells-eq i x .0 f, e)) (λ f. other i (λ q. false≢true (sym f ∙ eq-eqb i x q)))
-
-      go : Dec (x < k) → (x < k) × (p x ≡ true)
-      go (yes l) = (l, by-test (p x) (λ e. e) (λ e. absurd (sum-some (λ i g. fails e i))))
-      go (no l) = absurd (sum-some (λ i g. other i (omega arith)))
-
-  pub below-all : (k : ℕ) → All (λ c. c < k) (below p k)
-  below-all k = occurs-all _ (below p k) (λ c h. below-only c k h .0)
+  pub below-all : (P : ℕ → Type 0) (k : ℕ) → ((c : ℕ) → c < k → p c ≡ true → P c) → All P (below p k)
+  unfolding below
+  below-all P zero f = tt
+  below-all P (suc k) f =
+      all-append P (below p k) (cond (p k) (k ∷ []) []) (below-all P k (λ c h. f c (omega arith)))
+      (by-test (p k) (λ e. rw e (f k (omega arith) e, tt)) (λ e. rw e tt))
 
 pub below-ext : (p q : ℕ → Bool) (k : ℕ) → ((c : ℕ) → c < k → p c ≡ q c) → below p k ≡ below q k
 unfolding below
 below-ext p q zero h = refl
 below-ext p q (suc k) h = rw (below-ext p q k (λ c g. h c (omega arith)), h k (omega arith))
 
-module _ (m : ℕ) (E : ℕ → EdgeRow) (t : ℕ) where
-  pub into-tells : (c i : ℕ) → Tells (isInto m E t c i) ((E i .child ≡ c) × During (E i .from) (E i .to) t)
-  into-tells c i = tells-and _ _ (tells-eq (E i .child) c) (during-tells (E i .from) (E i .to) t)
-
-  pub child-tells : (p c : ℕ) → Tells (isChild m E t p c) (IsChild m E t p c)
+module _ (H : History) (t : ℕ) where
+  pub child-tells : (p c : ℕ) → Tells (isChild H t p c) (IsChild H t p c)
   unfolding isChild
   child-tells p c =
-      Iff·trans (any-tells _ _ (λ i. tells-and _ _ (tells-eq (E i .parent) p) (into-tells c i)) m) (
-        λ (i, h, (q, (e, f))). (i, record { row = h; into = e; force = f }, q),
-        λ (i, x, q). (i, x .row, (q, (x .into, x .force))),
+      Iff·trans
+      (any-tells _ (λ i. (H .edge i .parent ≡ p) × Leads (H .edge) t c i)
+      (λ i. tells-and _ _ (tells-eq (H .edge i .parent) p) (leads-tells (H .edges) (H .edge) t c i)) (H .edges)) (
+        λ (i, h, (q, l)). (i, leads-into (H .edges) (H .edge) t c i h l, q),
+        λ (i, x, q). (i, x .row, (q, into-leads (H .edges) (H .edge) t c i x)),
       )
 
-  pub children-hold : (n : ℕ) → NodesBelow m E n → Children m E t (childrenAt m E t n)
-  children-hold n b =
-      record {
-        held =
-            λ p c x.
-            let h : c < n = omega (arith, b (x .0) (x .1 .row) .1, x .1 .into) in
-            below-once (isChild m E t p) c n h (child-tells p c .1 x);
-        only = λ p c h. child-tells p c .0 (below-only (isChild m E t p) c n h .1);
-      }
+  pub child-below : Ruled H → (p c : ℕ) → IsChild H t p c → c < H .nodes
+  child-below r p c (i, x, _) = omega (arith, ruled-below H r i (x .row) .1, x .into)
+
+  pub child-occurs : Ruled H → (p c : ℕ) → occurs c (childrenOf H t p) ≡ bit (isChild H t p c)
+  child-occurs r p c = below-occurs (isChild H t p) c (H .nodes) (λ e. child-below r p c (child-tells p c .0 e))
+
+  pub children-all : (p : ℕ) (P : ℕ → Type 0) → ((c : ℕ) → IsChild H t p c → P c) → All P (childrenOf H t p)
+  children-all p P f = below-all (isChild H t p) P (H .nodes) (λ c h e. f c (child-tells p c .0 e))

@@ -11,14 +11,16 @@ use Rattle.ground.specs.Tests.{Tells}
 use Rattle.ground.specs.Least.{Any}
 use Rattle.ground.proofs.TestLaws.{tells-and, tells-fails}
 use Rattle.ground.proofs.LeastLaws.{any-tells}
-use Rattle.tables.specs.Tables.{During, EdgeRow}
+use Rattle.tables.specs.Tables.{EdgeRow}
 use Rattle.history.specs.Faults.{History, Chain}
 use Rattle.history.specs.Ruled.{Ruled}
+use Rattle.history.specs.Places.{Leads}
 use Rattle.history.proofs.Chains.{never-deep}
+use Rattle.history.proofs.ComputedLaws.{leads-tells, leads-into, into-leads}
 use Rattle.history.proofs.RuledLaws.{ruled-below}
 use Rattle.history.proofs.Tree.{Tree}
-use Rattle.snapshot.specs.Depth.{mostDeep, TooDeep, climbs, tooDeep}
-use Rattle.snapshot.proofs.ChildLaws.{into-tells}
+use Rattle.snapshot.specs.Snapshot.{mostDeep, TooDeep}
+use Rattle.snapshot.specs.Depth.{climbs, tooDeep}
 
 module _ (m : ℕ) (E : ℕ → EdgeRow) (t : ℕ) where
   -- a chain of k rows leads to n
@@ -27,20 +29,20 @@ module _ (m : ℕ) (E : ℕ → EdgeRow) (t : ℕ) where
 
   -- its last row, and the chain of k - 1 rows above
   abbrev Step : ℕ → ℕ → ℕ → Type 0
-  Step k n i = ((E i .child ≡ n) × During (E i .from) (E i .to) t) × Above k (E i .parent)
+  Step k n i = Leads E t n i × Above k (E i .parent)
 
   climbs-tells : (k n : ℕ) → Tells (climbs m E t k n) (Above k n)
   unfolding climbs
   climbs-tells zero n = (λ e. (n, [], refl, refl), λ x. refl)
   climbs-tells (suc k) n =
-      Iff·trans (any-tells _ (Step k n) (λ i. tells-and _ _ (into-tells m E t n i) (climbs-tells k (E i .parent))) m) (
-        λ (i, h, ((e, f), (a, is, c, l))). (a, i ∷ is, (record { row = h; into = e; force = f }, c), ap suc l),
+      Iff·trans (any-tells _ (Step k n) (λ i. tells-and _ _ (leads-tells m E t n i) (climbs-tells k (E i .parent))) m) (
+        λ (i, h, (f, (a, is, c, l))). (a, i ∷ is, (leads-into m E t n i h f, c), ap suc l),
         λ (a, is, c, l). back a is c l,
       )
     where
       back : (a : ℕ) (is : List ℕ) → Chain m E t a n is → length is ≡ suc k → Any (Step k n) m
       back a [] c l = absurd (omega arith)
-      back a (i ∷ is) (p, c) l = (i, p .row, ((p .into, p .force), (a, is, c, omega arith)))
+      back a (i ∷ is) (p, c) l = (i, p .row, (into-leads m E t n i p, (a, is, c, omega arith)))
 
   -- the last k rows of a chain
   last : (k a n : ℕ) (is : List ℕ) → Chain m E t a n is → k ≤ length is → Above k n

@@ -4,10 +4,11 @@ pub mod LinkLaws
 pub mod ValueLaws
 pub mod CountLaws
 pub mod ChildLaws
+pub mod ShownLaws
 pub mod ExactLaws
 pub mod DepthLaws
 pub mod RowLaws
 pub mod ReadyLaws
 pub mod ShowLaws
-pub mod AnswersLaws
+pub mod SnapshotLaws
 pub mod Contained

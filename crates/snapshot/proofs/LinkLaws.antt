@@ -1,4 +1,4 @@
--- Laws of the links: a run of siblings, and that the links of all nodes give each node's children, rising.
+-- Laws of the links: a run of run, and that the links of all nodes give each node's children, rising.
 -- Assumes nothing.
 use mathlib.Core.Path.{_≡_, refl, sym, ap, _∙_}
 use mathlib.Core.Logic.{_≢_}
@@ -13,52 +13,52 @@ use lib.Seq.{getD-set-same, getD-set-other}
 use borrow.Author.Tests.{lt-ltb, le-ltb, ltb-true, ltb-false, eq-eqb, ne-eqb}
 use Rattle.ground.proofs.TestLaws.{by-test}
 use Rattle.tables.specs.Tables.{noNode}
-use Rattle.snapshot.specs.Snapshot.{below}
-use Rattle.snapshot.specs.Lists.{Blank, Links, linkTo, linkFrom, follow, kidsOf, Runs, kidsBy}
+use Rattle.snapshot.specs.Says.{below}
+use Rattle.snapshot.specs.Lists.{Blank, Links, linkTo, linkFrom, run, kidsOf, Runs, kidsBy}
 
-pub follow-stop : (next : List ℕ) (count most c : ℕ) → count ≤ c → follow next count most c ≡ []
-unfolding follow
-follow-stop next count zero c h = refl
-follow-stop next count (suc most) c h = rw (le-ltb c count h)
+pub run-stop : (next : List ℕ) (count most c : ℕ) → count ≤ c → run next count most c ≡ []
+unfolding run
+run-stop next count zero c h = refl
+run-stop next count (suc most) c h = rw (le-ltb c count h)
 
-follow-cons : (next : List ℕ) (count most c : ℕ) → c < count
-    → follow next count (suc most) c ≡ c ∷ follow next count most (getD next c 0)
-unfolding follow
-follow-cons next count most c h = rw (lt-ltb c count h)
+run-cons : (next : List ℕ) (count most c : ℕ) → c < count
+    → run next count (suc most) c ≡ c ∷ run next count most (getD next c 0)
+unfolding run
+run-cons next count most c h = rw (lt-ltb c count h)
 
 -- where each next sibling is a larger number
 module _ (count : ℕ) (next : List ℕ) (rising : (i : ℕ) → i < count → i < getD next i 0) where
   -- any two numbers of steps that reach the end give the same run
-  follow-enough : (f g c : ℕ) → count ≤ f + c → count ≤ g + c → follow next count f c ≡ follow next count g c
-  follow-enough zero g c a b =
-      follow-stop next count zero c (omega arith) ∙ sym (follow-stop next count g c (omega arith))
-  follow-enough (suc f) zero c a b =
-      follow-stop next count (suc f) c (omega arith) ∙ sym (follow-stop next count zero c (omega arith))
-  follow-enough (suc f) (suc g) c a b =
+  run-enough : (f g c : ℕ) → count ≤ f + c → count ≤ g + c → run next count f c ≡ run next count g c
+  run-enough zero g c a b =
+      run-stop next count zero c (omega arith) ∙ sym (run-stop next count g c (omega arith))
+  run-enough (suc f) zero c a b =
+      run-stop next count (suc f) c (omega arith) ∙ sym (run-stop next count zero c (omega arith))
+  run-enough (suc f) (suc g) c a b =
       by-test (ltb c count)
       (λ e.
       let l = ltb-true c count e in
       let h = rising c l in
-      follow-cons next count f c l ∙ ap (λ r. c ∷ r) (follow-enough f g (getD next c 0) (omega arith) (omega arith))
-      ∙ sym (follow-cons next count g c l))
+      run-cons next count f c l ∙ ap (λ r. c ∷ r) (run-enough f g (getD next c 0) (omega arith) (omega arith))
+      ∙ sym (run-cons next count g c l))
       (λ e.
       let h = ltb-false c count e in
-      follow-stop next count (suc f) c h ∙ sym (follow-stop next count (suc g) c h))
+      run-stop next count (suc f) c h ∙ sym (run-stop next count (suc g) c h))
 
   -- the first of a run, and the run after it
-  follow-step : (c : ℕ) → c < count → follow next count count c ≡ c ∷ follow next count count (getD next c 0)
-  follow-step c l = follow-enough count (suc count) c (omega arith) (omega arith) ∙ follow-cons next count count c l
+  run-step : (c : ℕ) → c < count → run next count count c ≡ c ∷ run next count count (getD next c 0)
+  run-step c l = run-enough count (suc count) c (omega arith) (omega arith) ∙ run-cons next count count c l
 
   -- a store before the run leaves it
-  follow-frame : (i v most c : ℕ) → i < c → follow (set next i v) count most c ≡ follow next count most c
-  unfolding follow
-  follow-frame i v zero c l = refl
-  follow-frame i v (suc most) c l =
+  run-frame : (i v most c : ℕ) → i < c → run (set next i v) count most c ≡ run next count most c
+  unfolding run
+  run-frame i v zero c l = refl
+  run-frame i v (suc most) c l =
       by-test (ltb c count)
       (λ e.
       let h = rising c (ltb-true c count e) in
       rw (e, getD-set-other next i c v 0 (omega arith))
-      (ap (λ r. c ∷ r) (follow-frame i v most (getD next c 0) (omega arith))))
+      (ap (λ r. c ∷ r) (run-frame i v most (getD next c 0) (omega arith))))
       (λ e. rw e)
 
 -- one turn: the node before c is linked, or its parent is no node
@@ -99,7 +99,7 @@ module _ (parents : List ℕ) (count : ℕ) where
         nexts = n;
         rising = λ i h. rw (bn i (omega arith)) (omega arith);
         heads = λ i h. rw (bf i (omega arith)) (omega arith);
-        shows = λ i h. rw (bf i (omega arith), follow-stop (l .next) count count noNode (omega arith), append-nil);
+        shows = λ i h. rw (bf i (omega arith), run-stop (l .next) count count noNode (omega arith), append-nil);
       }
 
   module _ (c : ℕ) (l : Links) (k : Linking parents l count (suc c)) where
@@ -144,9 +144,9 @@ module _ (parents : List ℕ) (count : ℕ) where
           go (yes q) = rw (q, first-at) (omega arith)
           go (no d) = rw (getD-set-other (l .first) p n c 0 d) (omega (arith, k .heads n g))
 
-      later : (n : ℕ) → n < count → follow next′ count count (getD (l .first) n 0) ≡ kidsOf (l .first) (l .next) count n
+      later : (n : ℕ) → n < count → run next′ count count (getD (l .first) n 0) ≡ kidsOf (l .first) (l .next) count n
       later n g =
-          follow-frame count (l .next) (k .rising) c (getD (l .first) p 0) count (getD (l .first) n 0) (k .heads n g)
+          run-frame count (l .next) (k .rising) c (getD (l .first) p 0) count (getD (l .first) n 0) (k .heads n g)
 
       abbrev Shows : ℕ → Type 0
       Shows n =
@@ -157,11 +157,11 @@ module _ (parents : List ℕ) (count : ℕ) where
       shows-parent : Shows p
       unfolding below
       shows-parent =
-          let run : follow next′ count count c ≡ c ∷ kidsOf (l .first) (l .next) count p
-          = follow-step count next′ risen c (omega (arith, k .within))
-          ∙ ap (λ j. c ∷ follow next′ count count j) next-at
+          let head : run next′ count count c ≡ c ∷ kidsOf (l .first) (l .next) count p
+          = run-step count next′ risen c (omega (arith, k .within))
+          ∙ ap (λ j. c ∷ run next′ count count j) next-at
           ∙ ap (λ r. c ∷ r) (later p lp) in
-          rw (eq-eqb (getD parents c 0) p (sym e), first-at, run, append-assoc)
+          rw (eq-eqb (getD parents c 0) p (sym e), first-at, head, append-assoc)
 
       shows-other : (n : ℕ) → n < count → n ≢ p → Shows n
       unfolding below
@@ -207,7 +207,7 @@ module _ (parents : List ℕ) (count : ℕ) where
 
       pub link-runs : Runs (r .first) (r .next) count
       link-runs =
-          record { firsts = linked .firsts; nexts = linked .nexts; goes = follow-step count (r .next) (linked .rising) }
+          record { firsts = linked .firsts; nexts = linked .nexts; goes = run-step count (r .next) (linked .rising) }
 
       pub link-shows : (x : ℕ) → x < count
           → kidsOf (r .first) (r .next) count x ≡ kidsBy parents count x

@@ -7,14 +7,16 @@ use Prim.Native.Nat.{ℕ, _+_, _≤_, _<_}
 use native.Mathlib.Omega.{arith}
 use lib.Dec.{ltb}
 use lib.ListN.{length, getD}
-use borrow.Author.Tests.{lt-ltb, le-ltb, ltb-true, ltb-false}
+use borrow.Author.Tests.{lt-ltb, le-ltb}
 use Rattle.ground.specs.Sums.{count}
-use Rattle.ground.proofs.TestLaws.{by-test}
+use Rattle.ground.proofs.TestLaws.{by-test, by-lt}
 use Rattle.ground.proofs.SumLaws.{count-le}
+use Rattle.answers.specs.declared.Fault.{Fault}
+use Rattle.answers.specs.declared.Kind.the-variants as kind
 use Rattle.answers.specs.declared.Answer.{Answer}
 use Rattle.answers.specs.declared.Answer.the-variants.{Early, Deep}
 use Rattle.answers.specs.Numbers.{refuses, passed}
-use Rattle.answers.specs.Refusals.{when}
+use Rattle.answers.specs.Refusals.{fault, when}
 use Rattle.answers.proofs.AnswerLaws.{faulty-refuses}
 use Rattle.tables.specs.Tables.{Tables}
 use Rattle.tables.specs.Rules.{mostNodes, Obeys, Gives}
@@ -26,19 +28,27 @@ use Rattle.history.specs.Places.{Names, none, first}
 use Rattle.history.specs.Computed.{shownSay}
 use Rattle.history.proofs.SayLaws.{shown-named}
 use Rattle.history.proofs.RuledLaws.{obeys-ruled}
+use Rattle.history.proofs.Tree.{Tree}
 use Rattle.history.proofs.VerdictLaws.{names-unique}
 use Rattle.faults.specs.Judged.{Shows}
-use Rattle.snapshot.specs.Depth.{TooDeep, tooDeep}
-use Rattle.snapshot.specs.Ready.{Ready, Unready, Readiness, ruled-out, early, faulty, deep, refused, is-ready}
-use Rattle.snapshot.specs.Ready.{instantSays, readySays}
-use Rattle.snapshot.specs.Readied.{Readied}
-use Rattle.snapshot.specs.Snapshot.{placesOf}
-use Rattle.snapshot.specs.Lists.{placesBy}
+use Rattle.snapshot.specs.Snapshot.{TooDeep, Ready, Unready, ruled-out, early, faulty, deep}
+use Rattle.snapshot.specs.Depth.{tooDeep}
+use Rattle.snapshot.specs.Says.{shownRows, instantSays, readySays}
+use Rattle.snapshot.specs.Readied.{Readiness, refused, is-ready, Readied}
+use Rattle.snapshot.specs.Lists.{rowsBy}
 use Rattle.snapshot.proofs.DepthLaws.{shallow, not-deep}
-use Rattle.snapshot.proofs.RowLaws.{none-tree, counted, walked}
+use Rattle.snapshot.proofs.RowLaws.{counted, walked}
 
 -- what is computed at an instant: before the start, and where a fault is named or none
 module _ (H : History) (t : ℕ) where
+  none-tree : ((f : Fault) → Shown H t f → ⊥) → Tree (H .edges) (H .edge) t
+  none-tree never =
+      record {
+        no-overlap = λ n x. never (fault kind.Overlap n) (x, omega arith);
+        no-outside = λ n x. never (fault kind.Outside n) (x, omega arith);
+        no-cycle = λ n x. never (fault kind.Cycle n) (x, omega arith);
+      }
+
   early-says : t < H .start → instantSays H t ≡ Early t
   unfolding instantSays
   early-says h = rw (lt-ltb t (H .start) h)
@@ -65,9 +75,12 @@ module _ (L : Tables) (t : ℕ) where
   pub ready-ruled : Known → Ruled H
   ready-ruled r = obeys-ruled L (r .obeys)
 
+  pub ready-tree : Known → Tree (H .edges) (H .edge) t
+  ready-tree r = none-tree H t (r .none)
+
   -- [02:Ask 8] "no chain can pass 1,023 rows"
-  pub never-deep : Known → TooDeep H t → ⊥
-  never-deep r = shallow H t (ready-ruled r) (none-tree H t (r .none))
+  pub never-deep : Obeys L → ((f : Fault) → Shown H t f → ⊥) → TooDeep H t → ⊥
+  never-deep o n = shallow H t (obeys-ruled L o) (none-tree H t n)
 
   says-refused : refuses (historySays L) ≡ true → readySays L t ≡ historySays L
   unfolding readySays
@@ -79,9 +92,8 @@ module _ (L : Tables) (t : ℕ) where
 
   says-ready : (r : Known) → readySays L t ≡ passed
   says-ready r =
-      let ruled = ready-ruled r in
-      let named = ap refuses (names-unique (Shown H t) t (shown-named H t ruled) (none (r .none))) in
-      says-obeyed (r .obeys) ∙ depth-says H t (r .begun) named ∙ rw (not-deep H t ruled (none-tree H t (r .none)))
+      let named = ap refuses (names-unique (Shown H t) t (shown-named H t (ready-ruled r)) (none (r .none))) in
+      says-obeyed (r .obeys) ∙ depth-says H t (r .begun) named ∙ rw (not-deep H t (ready-ruled r) (ready-tree r))
 
   pub readiness-is : {a : Answer} → Is a → a ≡ readySays L t
   readiness-is (refused (ruled-out g e)) =
@@ -91,20 +103,15 @@ module _ (L : Tables) (t : ℕ) where
   readiness-is (refused (faulty {f = f} o b x)) =
       let q = names-unique (Shown H t) t (first x) (shown-named H t (obeys-ruled L o)) in
       q ∙ sym (says-obeyed o ∙ fault-says H t b (ap refuses (sym q) ∙ faulty-refuses t f))
-  readiness-is (refused (deep r d)) = absurd (never-deep r d)
-  readiness-is (is-ready r d) = sym (says-ready r)
-
-  pub readiness-unique : {a b : Answer} → Is a → Is b → a ≡ b
-  readiness-unique x y = readiness-is x ∙ sym (readiness-is y)
+  readiness-is (refused (deep o b n d)) = absurd (never-deep o n d)
+  readiness-is (is-ready r) = sym (says-ready r)
 
   -- the answers: where a rule is broken, before the start, and what the judge names
   pub rules-readiness : {a : Answer} → a ≡ historySays L → refuses a ≡ true → Is a
   rules-readiness q e = refused (ruled-out (subst (Gives L) (sym q) (gives-says L)) e)
 
-  pub shown-readiness : Obeys L → L .start ≤ t → {a : Answer} → Names (Shown H t) t a → Is a
-  shown-readiness o b (none n) =
-      let r : Known = record { obeys = o; begun = b; none = n } in
-      is-ready r (never-deep r)
+  shown-readiness : Obeys L → L .start ≤ t → {a : Answer} → Names (Shown H t) t a → Is a
+  shown-readiness o b (none n) = is-ready (record { obeys = o; begun = b; none = n; shallow = never-deep o n })
   shown-readiness o b (first x) = refused (faulty o b x)
 
   pub readiness-exists : (a : Answer) × Is a
@@ -113,28 +120,26 @@ module _ (L : Tables) (t : ℕ) where
       (λ e. (historySays L, rules-readiness refl e))
       (λ e.
       let o = obeys-tells L .0 e in
-      by-test (ltb t (L .start))
-      (λ f. (Early t, refused (early o (ltb-true t (L .start) f))))
-      (λ f.
-      let named = shown-named H t (obeys-ruled L o) in
-      (shownSay H t, shown-readiness o (ltb-false t (L .start) f) named)))
+      by-lt t (L .start)
+      (λ h. (Early t, refused (early o h)))
+      (λ h. (shownSay H t, shown-readiness o h (shown-named H t (obeys-ruled L o)))))
 
   pub unready-refuses : {a : Answer} → Unready L t a → refuses a ≡ true
   unready-refuses (ruled-out g e) = e
   unready-refuses (early o h) = refl
   unready-refuses (faulty {f = f} o b x) = faulty-refuses t f
-  unready-refuses (deep r d) = refl
+  unready-refuses (deep o b n d) = refl
 
   readiness-ready : {a : Answer} → Is a → refuses a ≡ false → Known
   readiness-ready (refused u) e = absurd (false≢true (sym e ∙ unready-refuses u))
-  readiness-ready (is-ready r d) e = r
+  readiness-ready (is-ready r) e = r
 
   pub ready-tells : {a : Answer} → Is a → (refuses a ≡ false) ↔ Known
-  ready-tells x = (readiness-ready x, λ r. ap refuses (readiness-unique x (is-ready r (never-deep r))))
+  ready-tells x = (readiness-ready x, λ r. ap refuses (readiness-is x ∙ says-ready r))
 
   pub readiness-unready : {a : Answer} → Is a → refuses a ≡ true → Unready L t a
   readiness-unready (refused u) e = u
-  readiness-unready (is-ready r d) e = absurd (false≢true e)
+  readiness-unready (is-ready r) e = absurd (false≢true e)
 
   -- a refusal says nothing of the slots
   pub readied-refused : {r : Answer} {up : List ℕ} → Is r → refuses r ≡ true → Readied L t r up
@@ -150,16 +155,16 @@ module _ (L : Tables) (t : ℕ) where
         seen = λ f. record { ruled = ruled; long = h; slots = x .slots };
       }
 
-  -- where nothing is refused, the slots count the rows and show the places
+  -- where nothing is refused, the slots count the rows and show them
   module _ {r : Answer} {up : List ℕ} (x : Readied L t r up) (f : refuses r ≡ false) where
     known : Known
     known = readiness-ready (x .answer) f
 
-    pub ready-counted : 1 + count (λ c. ltb (getD up c 0) (H .nodes)) (H .nodes) ≡ length (placesOf H t)
-    ready-counted = counted H t (known .begun) (known .none) (x .seen f)
+    pub ready-counted : 1 + count (λ c. ltb (getD up c 0) (H .nodes)) (H .nodes) ≡ length (shownRows H t)
+    ready-counted = counted H t (ready-tree known) (x .seen f) (known .begun)
 
-    pub ready-places : placesBy up (H .nodes) ≡ placesOf H t
-    ready-places = walked H t (known .begun) (known .none) (x .seen f)
+    pub ready-rows : rowsBy up (H .nodes) (L .refs .numbers) (L .refs .count) t ≡ shownRows H t
+    ready-rows = walked H t (ready-tree known) (x .seen f)
 
     pub ready-few : {k : ℕ} → k ≡ 1 + count (λ c. ltb (getD up c 0) (H .nodes)) (H .nodes) → k ≤ mostNodes + 1
     ready-few e = omega (arith, count-le (λ c. ltb (getD up c 0) (H .nodes)) (H .nodes), x .seen f .ruled .few-nodes)

@@ -15,7 +15,7 @@ use Rattle.ground.specs.Searches.{Passes, least}
 use Rattle.ground.proofs.TestLaws.{by-test}
 use Rattle.ground.proofs.LeastLaws.{least-none, least-tells, search-none, search-more, search-found, search-missed}
 use Rattle.tables.specs.Tables.{noNode}
-use Rattle.snapshot.specs.Snapshot.{valueAt}
+use Rattle.snapshot.specs.Says.{valueAt}
 use Rattle.snapshot.specs.Lists.{Lists, Blank, putFirst}
 
 module _ (p : ℕ → Bool) (v : ℕ → ℕ) where

@@ -1,23 +1,15 @@
--- Chains that are too long for a snapshot.
---   mostDeep   how many rows a chain may have
---   TooDeep    a chain in force has more; `tooDeep` is the test
+-- The test of a chain that is too long for a snapshot. proofs/DepthLaws.antt ties `tooDeep` to `TooDeep`, and shows
+-- that no history without a cycle is too deep.
 --   climbs     k rows, all in force, lead up from a node
--- proofs/DepthLaws.antt ties the two, and shows that no history without a cycle is too deep. Assumes nothing.
+--   tooDeep    more than mostDeep rows lead up from some node
+-- Assumes nothing.
 use mathlib.Core.Bool.{Bool, true, _&&_}
-use mathlib.Core.List.{List}
-use Prim.Native.Nat.{ℕ, zero, suc, _<_}
-use lib.ListN.{length}
+use Prim.Native.Nat.{ℕ, zero, suc}
 use Rattle.ground.specs.Searches.{any}
 use Rattle.tables.specs.Tables.{EdgeRow}
-use Rattle.history.specs.Faults.{History, Chain}
+use Rattle.history.specs.Faults.{History}
 use Rattle.history.specs.Computed.{isInto}
-
-abbrev pub mostDeep : ℕ
-mostDeep = 1023
-
--- [01:What the calls answer] DEEP "a chain in force at the instant has more than 1,023 rows"
-abbrev pub TooDeep : History → ℕ → Type 0
-TooDeep H t = (a : ℕ) × (b : ℕ) × (is : List ℕ) × Chain (H .edges) (H .edge) t a b is × (mostDeep < length is)
+use Rattle.snapshot.specs.Snapshot.{mostDeep}
 
 -- k rows, all in force, lead up from n. What a `let` binds waits: the search stops at a row that is not into n
 unfoldable pub climbs : ℕ → (ℕ → EdgeRow) → ℕ → ℕ → ℕ → Bool

@@ -1,8 +1,8 @@
+pub mod Snapshot
+pub mod Exact
 pub mod Walk
 pub mod Depth
-pub mod Ready
+pub mod Says
 pub mod Readied
-pub mod Snapshot
-pub mod Answers
+pub mod Counts
 pub mod Lists
-pub mod Exact

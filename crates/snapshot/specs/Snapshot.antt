@@ -1,80 +1,98 @@
--- What the call snapshot answers and writes, computed. specs/Answers.antt says it in the document's words.
---   below        the numbers below a bound that pass a test, rising
---   isChild      a row from one node to another is in force; childrenAt: a node's children
---   placesAt     the root and what it contains, in the order of the rows
---   valueAt      the number of the smallest row that passes a test
---   refersFrom   reference row i is in force from a node; referentAt: a node's referent
---   childrenOf, placesOf, rowsOf   the same of a history at an instant, and the numbers of its rows
---   roomSays     21 or the number of rows; snapshotSays: the refusals of what is not ready, then that
---   written      what the output holds after an answer
--- Assumes nothing.
-use mathlib.Core.Bool.{Bool, cond, _&&_}
+-- What snapshot refuses, and what it shows. Assumes nothing.
+use mathlib.Core.Path.{_≡_}
+use mathlib.Core.Bool.{true}
 use mathlib.Core.List.{List, [], _∷_, _++_}
-use Prim.Native.Nat.{ℕ, zero, suc, _*_}
-use lib.Dec.{ltb, eqb}
+use Prim.Native.Nat.{ℕ, _+_, _*_, _≤_, _<_}
 use lib.ListN.{length}
-use Rattle.ground.specs.Searches.{any, least}
+use Rattle.ground.specs.Least.{Before, Smallest}
 use Rattle.ground.specs.Lists.{front}
+use Rattle.answers.specs.declared.Fault.{Fault}
 use Rattle.answers.specs.declared.Answer.{Answer}
-use Rattle.answers.specs.declared.Answer.the-variants.{Done, Room}
+use Rattle.answers.specs.declared.Answer.the-variants.{Done, Faulty, Room, Early, Deep}
 use Rattle.answers.specs.Numbers.{refuses}
-use Rattle.answers.specs.Refusals.{when, _⨾_}
-use Rattle.tables.specs.Labels.{during}
-use Rattle.tables.specs.Tables.{EdgeRow, RefRow, noNode, Tables}
-use Rattle.history.specs.Faults.{History, held}
-use Rattle.history.specs.Computed.{isInto}
-use Rattle.snapshot.specs.Walk.{Place, subtree, rowWidth, flat}
-use Rattle.snapshot.specs.Ready.{readySays}
+use Rattle.tables.specs.Tables.{During, noNode, Tables}
+use Rattle.tables.specs.Rules.{Obeys, Gives}
+use Rattle.history.specs.Faults.{History, held, Into, Chain, First, Shown}
 
-unfoldable pub below : (ℕ → Bool) → ℕ → List ℕ
-below p zero = []
-below p (suc k) = below p k ++ cond (p k) (k ∷ []) []
+-- [01:What the calls answer] DEEP "a chain in force at the instant has more than 1,023 rows"
+abbrev pub mostDeep : ℕ
+mostDeep = 1023
 
-module _ (m : ℕ) (E : ℕ → EdgeRow) (t : ℕ) where
-  unfoldable pub isChild : ℕ → ℕ → Bool
-  isChild p c = any (λ i. eqb (E i .parent) p && isInto m E t c i) m
+abbrev pub TooDeep : History → ℕ → Type 0
+TooDeep H t = (a : ℕ) × (b : ℕ) × (is : List ℕ) × Chain (H .edges) (H .edge) t a b is × (mostDeep < length is)
 
-  -- [01:What the calls answer] "children by rising node number". Of n nodes:
-  abbrev pub childrenAt : ℕ → ℕ → List ℕ
-  childrenAt n p = below (isChild p) n
+-- [01:What the calls answer] "A row is node, parent, referent."
+pub record ShownRow : Type 0 where
+  pub node : ℕ
+  pub parent : ℕ
+  pub referent : ℕ
 
-  -- [01:What the calls answer] "Rows stand for the root and all nodes present at t."
-  abbrev pub placesAt : ℕ → List Place
-  placesAt n = subtree (childrenAt n) n noNode 0
+abbrev pub shownWidth : ℕ
+shownWidth = 3
 
--- the number v i of the smallest row i below m that passes, or noNode where none does
-unfoldable pub valueAt : (ℕ → Bool) → (ℕ → ℕ) → ℕ → ℕ
-valueAt p v m = cond (ltb (least p m) m) (v (least p m)) noNode
+unfoldable pub shownNumbers : List ShownRow → List ℕ
+shownNumbers [] = []
+shownNumbers (x ∷ xs) = x .node ∷ x .parent ∷ x .referent ∷ shownNumbers xs
 
--- [01:What the calls answer] "Referent is the target of the smallest reference row in force from that node, or
--- 4,294,967,295 if there is none."
-abbrev pub refersFrom : (ℕ → RefRow) → ℕ → ℕ → ℕ → Bool
-refersFrom R t n i = eqb (R i .attribute) n && during (R i .from) (R i .to) t
+module _ (H : History) (t : ℕ) where
+  -- a row from p to c is in force
+  abbrev pub IsChild : ℕ → ℕ → Type 0
+  IsChild p c = (i : ℕ) × Into (H .edges) (H .edge) t c i × (H .edge i .parent ≡ p)
 
-abbrev pub referentAt : ℕ → (ℕ → RefRow) → ℕ → ℕ → ℕ
-referentAt k R t n = valueAt (refersFrom R t n) (λ i. R i .target) k
+  -- reference row k is in force from n
+  abbrev pub RefersFrom : ℕ → ℕ → Type 0
+  RefersFrom n k = (H .ref k .attribute ≡ n) × During (H .ref k .from) (H .ref k .to) t
 
-abbrev pub childrenOf : History → ℕ → ℕ → List ℕ
-childrenOf H t = childrenAt (H .edges) (H .edge) t (H .nodes)
+  -- [01:What the calls answer] "Referent is the target of the smallest reference row in force from that node, or
+  -- 4,294,967,295 if there is none."
+  pub data Referent (n : ℕ) : ℕ → Type 0 where
+    target : {k : ℕ} → Smallest (RefersFrom n) (H .refs) k → Referent n (H .ref k .target)
+    no-target : Before (RefersFrom n) (H .refs) → Referent n noNode
 
-abbrev pub placesOf : History → ℕ → List Place
-placesOf H t = placesAt (H .edges) (H .edge) t (H .nodes)
+  -- node k is a child of n, and its number is c or more
+  abbrev pub ChildFrom : ℕ → ℕ → ℕ → Type 0
+  ChildFrom n c k = (c ≤ k) × IsChild n k
 
-abbrev pub rowsOf : History → ℕ → List ℕ
-rowsOf H t = flat (referentAt (H .refs) (H .ref) t) (placesOf H t)
+  -- [01:What the calls answer] "a node is followed by the whole subtree of each child, children by rising node number;
+  -- each subtree fills the rows directly after what is already written"
+  mutual
+    -- the rows of the subtree of n, which stands under p
+    pub data Subtree : ℕ → ℕ → List ShownRow → Type 0 where
+      row : {p n r : ℕ} {xs : List ShownRow} → Referent n r → Children n 0 xs
+          → Subtree p n (record { node = n; parent = p; referent = r } ∷ xs)
 
--- [01:What the calls answer] Snapshot: "21 (instant t, place: rows needed). Otherwise code 0, instant t, place k". For
--- an output of `room` numbers:
-unfoldable pub roomSays : ℕ → ℕ → ℕ → Answer
-roomSays t rows room = when (ltb room (rows * rowWidth)) (Room t rows) ⨾ Done t rows
+    -- the rows of the subtrees of the children of n from node number c on
+    pub data Children : ℕ → ℕ → List ShownRow → Type 0 where
+      no-more : {n c : ℕ} → Before (ChildFrom n c) (H .nodes) → Children n c []
+      next : {n c k : ℕ} {xs ys : List ShownRow} → Smallest (ChildFrom n c) (H .nodes) k → Subtree n k xs
+          → Children n (k + 1) ys → Children n c (xs ++ ys)
 
--- [01:What the calls answer] Snapshot: "1 to 5 in order, 23, then the fault at t of smallest code and place with GAP
--- set aside, 24, 21"
-unfoldable pub snapshotSays : Tables → ℕ → ℕ → Answer
-snapshotSays L t room =
-    readySays L t ⨾ roomSays t (length (placesOf (held L) t)) room
+  -- [01:What the calls answer] "Rows stand for the root and all nodes present at t."; "The root's parent is
+  -- 4,294,967,295."
+  abbrev pub ShownRows : List ShownRow → Type 0
+  ShownRows = Subtree noNode 0
 
--- [01:What the calls answer] "the first 3k numbers of the output hold k rows, the rest unchanged"; "No refusal writes
--- to a lent table or buffer."
-unfoldable pub written : Answer → List ℕ → List ℕ → List ℕ
-written a rows out = cond (refuses a) out (front rows out)
+module _ (L : Tables) (t : ℕ) where
+  -- what can be shown
+  pub record Ready : Type 0 where
+    pub obeys : Obeys L
+    pub begun : L .start ≤ t
+    pub none : (f : Fault) → Shown (held L) t f → ⊥
+    pub shallow : TooDeep (held L) t → ⊥
+
+  -- [01:What the calls answer] Snapshot: "1 to 5 in order, 23, then the fault at t of smallest code and place with GAP
+  -- set aside, 24"
+  pub data Unready : Answer → Type 0 where
+    ruled-out : {a : Answer} → Gives L a → refuses a ≡ true → Unready a
+    early : Obeys L → t < L .start → Unready (Early t)
+    faulty : {f : Fault} → Obeys L → L .start ≤ t → First (Shown (held L) t) f → Unready (Faulty t f)
+    deep : Obeys L → L .start ≤ t → ((f : Fault) → Shown (held L) t f → ⊥) → TooDeep (held L) t → Unready (Deep t)
+
+  -- [01:What the calls answer] "21 (instant t, place: rows needed). Otherwise code 0, instant t, place k, and the first
+  -- 3k numbers of the output hold k rows, the rest unchanged."; "No refusal writes to a lent table or buffer."
+  pub data Snapshot (before : List ℕ) : Answer → List ℕ → Type 0 where
+    unready : {a : Answer} → Unready a → Snapshot before a before
+    short : {xs : List ShownRow} → Ready → ShownRows (held L) t xs → length before < length xs * shownWidth
+        → Snapshot before (Room t (length xs)) before
+    shows : {xs : List ShownRow} → Ready → ShownRows (held L) t xs → length xs * shownWidth ≤ length before
+        → Snapshot before (Done t (length xs)) (front (shownNumbers xs) before)

@@ -1,37 +1,25 @@
--- The walk of a tree whose nodes each have a list of children, and the numbers that it writes.
---   Place      a node, and the parent under which it stands
---   each       what a function gives at each element, one after the other
---   subtree    the places of a node's subtree
---   rowWidth   how many numbers a row of the output has: with src/walk.rt all that knows it
---   row        the numbers of a row; rowOf: of a place; flat: of places
+-- The walk of a tree whose nodes each have a referent and a list of children, computed. proofs/ShownLaws.antt: of a
+-- history it gives the rows that the words allow.
+--   each         what a function gives at each node of a list, one after the other
+--   shownRow     the row of a node under its parent; rowNumbers: the numbers of a row
+--   subtree      the rows of a node's subtree
 -- Assumes nothing.
 use mathlib.Core.List.{List, [], _∷_, _++_}
 use Prim.Native.Nat.{ℕ, zero, suc}
+use Rattle.snapshot.specs.Snapshot.{ShownRow}
 
-pub record Place : Type 0 where
-  pub node : ℕ
-  pub parent : ℕ
-
--- [01:What the calls answer] "each subtree fills the rows directly after what is already written"
-unfoldable pub each : {A B : Type 0} → (A → List B) → List A → List B
+unfoldable pub each : (ℕ → List ShownRow) → List ℕ → List ShownRow
 each f [] = []
-each f (x ∷ xs) = f x ++ each f xs
+each f (c ∷ cs) = f c ++ each f cs
 
--- [01:What the calls answer] "a node is followed by the whole subtree of each child". `left` is the number of nodes not
--- yet on the chain: that it cuts nothing off is proved in proofs/Contained.antt
-unfoldable pub subtree : (ℕ → List ℕ) → ℕ → ℕ → ℕ → List Place
-subtree kids zero parent n = []
-subtree kids (suc left) parent n = record { node = n; parent = parent } ∷ each (λ c. subtree kids left n c) (kids n)
+abbrev pub rowNumbers : ℕ → ℕ → ℕ → List ℕ
+rowNumbers node parent referent = node ∷ parent ∷ referent ∷ []
 
-abbrev pub rowWidth : ℕ
-rowWidth = 3
+abbrev pub shownRow : (ℕ → ℕ) → ℕ → ℕ → ShownRow
+shownRow referent parent n = record { node = n; parent = parent; referent = referent n }
 
--- [01:What the calls answer] "A row is node, parent, referent."
-abbrev pub row : ℕ → ℕ → ℕ → List ℕ
-row node parent referent = node ∷ parent ∷ referent ∷ []
-
-abbrev pub rowOf : (ℕ → ℕ) → Place → List ℕ
-rowOf referent x = row (x .node) (x .parent) (referent (x .node))
-
-unfoldable pub flat : (ℕ → ℕ) → List Place → List ℕ
-flat referent = each (rowOf referent)
+-- `left` is the number of nodes not yet on the chain: it cuts nothing off where no chain goes round
+module _ (referent : ℕ → ℕ) (kids : ℕ → List ℕ) where
+  unfoldable pub subtree : ℕ → ℕ → ℕ → List ShownRow
+  subtree zero parent n = []
+  subtree (suc left) parent n = shownRow referent parent n ∷ each (λ c. subtree left n c) (kids n)

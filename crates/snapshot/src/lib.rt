@@ -1,14 +1,12 @@
 // The call snapshot: what a history contains at an instant.
 ghost use mathlib.Core.Path.{_≡_};
 ghost use Rattle.ground.specs.Lists.{front};
-ghost use Rattle.tables.specs.Tables.{refAt, lent};
+ghost use Rattle.tables.specs.Tables.{lent};
 ghost use Rattle.tables.specs.Rules.{mostNodes};
 ghost use Rattle.faults.specs.Slots.{Fresh};
-ghost use Rattle.snapshot.specs.Walk.{flat};
+ghost use Rattle.snapshot.specs.Snapshot.{shownNumbers, Snapshot};
 ghost use Rattle.snapshot.specs.Readied.{Readied};
-ghost use Rattle.snapshot.specs.Snapshot.{referentAt};
-ghost use Rattle.snapshot.specs.Answers.{Snapshot};
-ghost use Rattle.snapshot.specs.Lists.{placesBy, Showable};
+ghost use Rattle.snapshot.specs.Lists.{rowsBy, Showable};
 
 pub mod lists;
 pub mod walk;
@@ -26,9 +24,9 @@ use walk::walk;
 
 // The rows of the root and of the nodes to which a list gives a parent.
 pub fn show(parents: &[u32], n: usize, refs: &[u32], k: usize, t: u32, out: &mut [u32])
-    requires { ⌜ Showable (now parents) n (now refs) k (now out) ⌝ }
-    ensures { λ _. ⌜ now (out .exit) ≡ front (flat (referentAt k (refAt (now (refs .entry))) t)
-        (placesBy (now (parents .entry)) n)) (now (out .entry)) ⌝ }
+    requires { ⌜ Showable (now parents) n (now refs) k t (now out) ⌝ }
+    ensures { λ _. ⌜ now (out .exit) ≡ front
+        (shownNumbers (rowsBy (now (parents .entry)) n (now (refs .entry)) k t)) (now (out .entry)) ⌝ }
 {
     let mut referents = [NO_NODE; MOST_NODES];
     list_referents(refs, k, t, &mut referents);

@@ -5,7 +5,7 @@ ghost use lib.Dec.{ltb};
 ghost use lib.ListN.{length, getD};
 ghost use Rattle.ground.specs.Sums.{count};
 ghost use Rattle.tables.specs.Tables.{noNode, refAt};
-ghost use Rattle.snapshot.specs.Snapshot.{referentAt};
+ghost use Rattle.snapshot.specs.Says.{referentAt};
 ghost use Rattle.snapshot.specs.Lists.{Lists, Listable, putFirst, links, linkFrom};
 use tables::rows::NO_NODE;
 use tables::rows::Side;

@@ -3,15 +3,16 @@ ghost use mathlib.Core.Path.{_≡_};
 ghost use Prim.Native.Nat.{_≤_};
 ghost use lib.ListN.{length};
 ghost use Rattle.ground.specs.Lists.{front};
-ghost use Rattle.snapshot.specs.Walk.{subtree, rowWidth, row};
-ghost use Rattle.snapshot.specs.Lists.{kidsOf, Walkable, Walked};
+ghost use Rattle.snapshot.specs.Snapshot.{shownWidth};
+ghost use Rattle.snapshot.specs.Walk.{rowNumbers};
+ghost use Rattle.snapshot.specs.Lists.{treeBy, Walkable, Walked};
 
 pub const ROW_WIDTH: usize = 3;
 
 // A row at the front of out.
 pub fn put_row(out: &mut [u32], node: u32, parent: u32, referent: u32)
-    requires { ⌜ rowWidth ≤ length (now out) ⌝ }
-    ensures { λ _. ⌜ now (out .exit) ≡ front (row node parent referent) (now (out .entry)) ⌝ }
+    requires { ⌜ shownWidth ≤ length (now out) ⌝ }
+    ensures { λ _. ⌜ now (out .exit) ≡ front (rowNumbers node parent referent) (now (out .entry)) ⌝ }
 {
     out[0] = node;
     out[1] = parent;
@@ -31,8 +32,8 @@ pub fn walk(
     out: &mut [u32],
 ) -> usize
     requires { ⌜ Walkable (now first) (now next) (now referents) count node parent left (now out) ⌝ }
-    ensures { λ r. ⌜ Walked (subtree (kidsOf (now (first .entry)) (now (next .entry)) count) left parent node)
-        (now (referents .entry)) (now (out .entry)) r (now (out .exit)) ⌝ }
+    ensures { λ r. ⌜ Walked (treeBy (now (first .entry)) (now (next .entry)) (now (referents .entry)) count left parent
+        node) (now (out .entry)) r (now (out .exit)) ⌝ }
 {
     if left == 0 {
         return 0;

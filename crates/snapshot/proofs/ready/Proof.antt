@@ -6,7 +6,8 @@ use Rattle.tables.specs.Tables.{Tables, lent}
 use Rattle.tables.specs.Rules.{Obeys}
 use Rattle.tables.proofs.GivesLaws.{obeys-tells}
 use Rattle.history.proofs.RuledLaws.{obeys-ruled, obeys-lent}
-use Rattle.snapshot.specs.Ready.{refused, early}
+use Rattle.snapshot.specs.Snapshot.{early}
+use Rattle.snapshot.specs.Readied.{refused}
 use Rattle.snapshot.proofs.ReadyLaws.{rules-readiness, readied-refused, readied-shown}
 use Rattle.snapshot.proofs.ready.Statement.{statement}
 use Rattle.snapshot.proofs.ready.Tie as tie

@@ -1,6 +1,8 @@
 -- The links are those of the parents and the referents those of the rows, so that the walk shows who has a parent.
 use borrow.Author.Needs.{needs}
 use native.Mathlib.Omega.{arith}
+use mathlib.Core.List.{List}
+use Prim.Native.Nat.{ℕ}
 use Rattle.snapshot.proofs.ShowLaws.{blanks-blank, show-walkable, show-written}
 use Rattle.snapshot.proofs.show.Statement.{statement}
 use Rattle.snapshot.proofs.show.Tie as tie
@@ -21,6 +23,9 @@ linked c = freed (c .before .before)
 abbrev entry : tie.After-link → tie.Start
 entry l = start (listed l .before)
 
+abbrev referents : tie.After-link → List ℕ
+referents l = listed l .list-referents .last .1 .1 .1 .0
+
 slice-aggregate-list-referents : tie.Need-slice-aggregate-list-referents
 slice-aggregate-list-referents c = search needs
 
@@ -28,10 +33,9 @@ list-referents-requires : tie.Need-list-referents-requires
 list-referents-requires c κs =
     let p = start c .pre in
     record {
-      rows = p .rows;
+      refers = record { rows = p .refers .rows; ends = λ side i h. omega (arith, p .few, p .refers .ends side i h) };
+      few = omega arith;
       blank = blanks-blank;
-      attributes = λ i h. omega (arith, p .few, p .attributes i h);
-      targets = λ i h. omega (arith, p .few, p .targets i h);
     }
 
 slice-aggregate-link : tie.Need-slice-aggregate-link
@@ -58,7 +62,8 @@ cast-walk c = search needs
 walk-requires : tie.Need-walk-requires
 walk-requires c κs =
     let l = linked (c .before) in
-    show-walkable (entry l .pre) (l .link .ensures) (omega (arith, entry l .pre .few))
+    show-walkable (entry l .pre) (referents l) (l .link .ensures) (omega (arith, entry l .pre .few))
+    (listed l .list-referents .ensures)
 
 same-length : tie.Need-same-length
 same-length c = search needs
@@ -67,8 +72,8 @@ returns : tie.Need-returns
 returns c =
     let w = c .before .before in
     let l = linked (w .before .before) in
-    show-written (entry l .pre) (l .link .ensures) (entry l .args .t) (w .walk .ensures)
-    (omega (arith, entry l .pre .few)) (listed l .list-referents .ensures)
+    show-written (entry l .pre) (referents l) (l .link .ensures) (omega (arith, entry l .pre .few))
+    (listed l .list-referents .ensures) (w .walk .ensures)
 
 pub show-spec : {M : Type 1} → statement M
 show-spec =

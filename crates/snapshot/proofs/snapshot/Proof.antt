@@ -7,7 +7,7 @@ use Rattle.answers.specs.Numbers.{refuses}
 use Rattle.tables.specs.Rules.{mostNodes}
 use Rattle.faults.proofs.SlotLaws.{fresh}
 use Rattle.snapshot.proofs.ReadyLaws.{ready-few}
-use Rattle.snapshot.proofs.AnswersLaws.{on-unready, on-short, rows-showable, on-rows}
+use Rattle.snapshot.proofs.SnapshotLaws.{on-unready, on-short, rows-showable, on-rows}
 use Rattle.snapshot.proofs.snapshot.Statement.{statement}
 use Rattle.snapshot.proofs.snapshot.Tie as tie
 

@@ -7,9 +7,10 @@ use mathlib.Core.Bool.{Bool}
 use mathlib.Core.List.{List}
 use Prim.Native.Nat.{ℕ, _≤_, _<_, _-_}
 use lib.ListN.{length}
+use Rattle.tables.specs.declared.rows.Side.the-variants.{Attribute, Target}
 use Rattle.tables.specs.Labels.{during}
 use Rattle.tables.specs.Tables.{noNode, RefRow, refAt}
-use Rattle.snapshot.specs.Snapshot.{referentAt}
+use Rattle.snapshot.specs.Says.{referentAt}
 use Rattle.snapshot.specs.Lists.{Lists}
 use Rattle.snapshot.proofs.ValueLaws.{list-start, list-skip, list-put}
 use Rattle.snapshot.proofs.lists.list_referents.Statement.{statement}
@@ -47,6 +48,9 @@ place s i = row s i .attribute
 abbrev value : tie.Start Inv-loop μ-loop → ℕ → ℕ
 value s i = row s i .target
 
+target-small : (s : tie.Start Inv-loop μ-loop) (j : ℕ) → j < s .args .k → value s j < noNode
+target-small s j h = omega (arith, s .pre .refers .ends Target j h, s .pre .few)
+
 loop-holds : tie.Need-loop-holds Inv-loop μ-loop
 loop-holds c =
     let s = c .before .before in
@@ -72,7 +76,7 @@ put-first-requires : tie.Need-put-first-requires Inv-loop μ-loop
 put-first-requires c κs =
     let read = c .before .before in
     let l = asked (read .before .before) in
-    let here = entry l .pre .attributes (l .loop .i) (omega arith) in
+    let here = entry l .pre .refers .ends Attribute (l .loop .i) (omega arith) in
     omega (arith, read .ref-side .ensures, l .loop .inv .size)
 
 add-i : tie.Need-add-i Inv-loop μ-loop
@@ -85,9 +89,9 @@ loop-again : tie.Need-loop-again Inv-loop μ-loop
 loop-again c =
     let l = asked (c .before) in
     let s = entry l in
-    let known : (j : ℕ) → j < l .loop .i → row s j .target < noNode = λ j h. s .pre .targets j (omega arith) in
+    let known : (j : ℕ) → j < l .loop .i → row s j .target < noNode = λ j h. target-small s j (omega arith) in
     let told = sym (c .before .ref-in-force .ensures) in
-    let fits = s .pre .attributes (l .loop .i) (omega arith) in
+    let fits = s .pre .refers .ends Attribute (l .loop .i) (omega arith) in
     ⊎-elim
     (λ w.
     let (same, put) =

@@ -8,12 +8,13 @@ use borrow.Author.Needs.{needs}
 use borrow.Fn.Kinds.{In}
 use borrow.Fn.PlainCycle.{Measures, is, falls, and}
 use lib.ListN.{length, getD, length-drop}
-use Rattle.snapshot.specs.Walk.{Place, subtree, rowWidth}
-use Rattle.snapshot.specs.Lists.{follow, kidsOf}
+use Rattle.snapshot.specs.Snapshot.{ShownRow, shownWidth}
+use Rattle.snapshot.specs.Walk.{subtree}
+use Rattle.snapshot.specs.Lists.{run, kidsOf}
 use Rattle.snapshot.proofs.WalkLaws.{peel}
 use Rattle.snapshot.proofs.PartLaws.{Part, part-start, part-none, part-long, part-room, part-fill, part-end}
 use Rattle.snapshot.proofs.PartLaws.{part-all}
-use Rattle.snapshot.proofs.LinkLaws.{follow-stop}
+use Rattle.snapshot.proofs.LinkLaws.{run-stop}
 use Rattle.snapshot.proofs.walk.walk.Reads as walk
 use Rattle.snapshot.proofs.walk.walk.Kinds as walk-kinds
 use Rattle.snapshot.proofs.walk.+walk.Lts-walk as walk-lts
@@ -32,10 +33,10 @@ walk-below t = and 4 walk-kinds.ps (falls 4 walk-kinds.ps _<_ μ-walk t) walk.Pr
 
 abbrev walk-Inv-loop : walk-lts.InvT-loop
 walk-Inv-loop first next referents count node parent left out₀ i rows₀ c₀ out rows c =
-    Part (kidsOf first next count) left parent node (λ x. getD referents x 0) out₀ out rows (follow next count count c)
+    Part (λ x. getD referents x 0) (kidsOf first next count) left parent node out₀ out rows (run next count count c)
 
 abbrev walk-μ-loop : walk-lts.MeasureT-loop
-walk-μ-loop first next referents count node parent left out₀ i rows₀ c₀ out rows c = length (follow next count count c)
+walk-μ-loop first next referents count node parent left out₀ i rows₀ c₀ out rows c = length (run next count count c)
 
 -- what `walk` is told of its callees at the measure t
 abbrev calls : ℕ → walk-lts.Claims
@@ -80,55 +81,56 @@ module _ (t : ℕ) where
   abbrev kids : Start → ℕ → List ℕ
   kids s = kidsOf (s .args .first .now) (s .args .next .now) (s .args .count)
 
-  abbrev run : Start → ℕ → List ℕ
-  run s = follow (s .args .next .now) (s .args .count) (s .args .count)
+  abbrev onward : Start → ℕ → List ℕ
+  onward s = run (s .args .next .now) (s .args .count) (s .args .count)
 
   abbrev referent : Start → ℕ → ℕ
   referent s x = getD (s .args .referents .now) x 0
 
   long : (l : Loop)
-      → (l .loop .rows * rowWidth ≤ length (l .loop .out)) × (length (l .loop .out) ≡ length (start l .args .out .now))
+      → (l .loop .rows * shownWidth ≤ length (l .loop .out))
+      × (length (l .loop .out) ≡ length (start l .args .out .now))
   long l = omega (arith, part-long (l .loop .inv), put l .put-row .kept .0)
 
   -- the walk stands so at the loop, with the children `rest` to come
   abbrev Parted : Loop → List ℕ → Type 0
   Parted l rest =
       let s = start l in
-      Part (kids s) (s .args .left) (s .args .parent) (s .args .node) (referent s)
+      Part (referent s) (kids s) (s .args .left) (s .args .parent) (s .args .node)
       (put l .put-row .last .0)
       (l .loop .out) (l .loop .rows) rest
 
-  -- the places under the child c, and the children after it
-  abbrev child : Turn → List Place
+  -- the rows under the child c, and the children after it
+  abbrev child : Turn → List ShownRow
   child c =
       let s = start (c .before) in
-      subtree (kids s) (s .args .left - 1) (s .args .node) (c .before .loop .c)
+      subtree (referent s) (kids s) (s .args .left - 1) (s .args .node) (c .before .loop .c)
 
   abbrev later : Turn → List ℕ
-  later c = let s = start (c .before) in run s (getD (s .args .next .now) (c .before .loop .c) 0)
+  later c = let s = start (c .before) in onward s (getD (s .args .next .now) (c .before .loop .c) 0)
 
   -- c is the next of the children still to come
+  here : (c : Turn) → onward (start (c .before)) (c .before .loop .c) ≡ c .before .loop .c ∷ later c
+  here c = start (c .before) .pre .1 .runs .goes (c .before .loop .c) (omega (arith, c .loop-test .taken))
+
   turn : (c : Turn) → Parted (c .before) (c .before .loop .c ∷ later c)
-  turn c =
-      rw (start (c .before) .pre .1 .runs .goes (c .before .loop .c) (c .loop-test .taken)) at (c .before .loop .inv)
+  turn c = rw (here c) at (c .before .loop .inv)
 
   -- there is room for its rows
-  room : (c : Turn) → (c .before .loop .rows + length (child c)) * rowWidth ≤ length (c .before .loop .out)
+  room : (c : Turn) → (c .before .loop .rows + length (child c)) * shownWidth ≤ length (c .before .loop .out)
   room c = part-room (turn c)
 
   walk-returns : walk-lts.Need-returns (calls t) (walk-at t) walk.Post walk-Inv-loop walk-μ-loop
   walk-returns c =
       let s = entry (c .before) in
-      let (k, o) =
-      part-none (kids s) (s .args .left) (s .args .parent) (s .args .node) (referent s) (s .args .out .now)
-      (c .if1 .taken) in
-      record { rows = k; out = o }
+      part-none (referent s) (kids s) (s .args .left) (s .args .parent) (s .args .node) (s .args .out .now)
+      (omega (arith, c .if1 .taken))
 
   walk-put-row-requires : walk-lts.Need-put-row-requires (calls t) (walk-at t) walk.Post walk-Inv-loop walk-μ-loop
   walk-put-row-requires c κs =
       let s = entry (c .before .before .before) in
-      let here = peel (kids s) (s .args .left) (s .args .parent) (s .args .node) (omega arith) in
-      omega (arith, s .pre .1 .room, ap length here)
+      let first = peel (referent s) (kids s) (s .args .left) (s .args .parent) (s .args .node) (omega arith) in
+      omega (arith, s .pre .1 .room, ap length first)
 
   walk-loop-holds : walk-lts.Need-loop-holds (calls t) (walk-at t) walk.Post walk-Inv-loop walk-μ-loop
   walk-loop-holds c =
@@ -151,18 +153,15 @@ module _ (t : ℕ) where
       let w = c .before .before in
       let l = turned w .before in
       let fits = room (turned w) in
-      omega (arith, w .walk .ensures .rows, long l, start l .good)
+      omega (arith, w .walk .ensures .number, long l, start l .good)
 
   walk-loop-less : walk-lts.Need-loop-less (calls t) (walk-at t) walk.Post walk-Inv-loop walk-μ-loop
-  walk-loop-less c =
-      let turn = turned (c .before .before .before) in
-      let l = turn .before in
-      omega (arith, ap length (start l .pre .1 .runs .goes (l .loop .c) (turn .loop-test .taken)))
+  walk-loop-less c = omega (arith, ap length (here (turned (c .before .before .before))))
 
   walk-loop-again : walk-lts.Need-loop-again (calls t) (walk-at t) walk.Post walk-Inv-loop walk-μ-loop
   walk-loop-again c =
       let w = c .before .before .before in
-      part-fill (turn (turned w)) _ _ (w .walk .ensures .rows) (w .walk .ensures .out)
+      part-fill (turn (turned w)) _ _ (w .walk .ensures .number) (w .walk .ensures .out)
 
   walk-same-length : walk-lts.Need-same-length (calls t) (walk-at t) walk.Post walk-Inv-loop walk-μ-loop
   walk-same-length c = long (c .before) .1
@@ -171,9 +170,9 @@ module _ (t : ℕ) where
   walk-returns-2 c =
       let l = c .before in
       let s = start l in
-      let e = follow-stop (s .args .next .now) (s .args .count) (s .args .count) (l .loop .c) (c .loop-test .left) in
-      let (k, o) = part-end (s .args .out .now) (rw e at (l .loop .inv)) (put l .put-row .ensures) in
-      record { rows = k; out = o }
+      let past : s .args .count ≤ l .loop .c = omega (arith, c .loop-test .left) in
+      let e = run-stop (s .args .next .now) (s .args .count) (s .args .count) (l .loop .c) past in
+      part-end (s .args .out .now) (rw e at (l .loop .inv)) (put l .put-row .ensures)
 
 pub +walk-spec : {M : Type 1} → statement M
 +walk-spec = close μ-walk λ t. walk-lts.spec (calls t)
