@@ -11,25 +11,25 @@ use mathlib.Core.Bool.{true, false, false≢true}
 use mathlib.Core.Logic.{⊎-elim}
 use mathlib.Core.List.{List}
 use Prim.Native.Nat.{ℕ, _*_, _≤_}
-use lib.ListN.{length, length-append, take, drop}
+use lib.ListN.{length, length-append, drop}
 use Rattle.ground.specs.Stores.{Put}
-use Rattle.ground.specs.Lists.{front}
+use Rattle.ground.specs.Lists.{bytes, joined, front}
 use Rattle.ground.proofs.ListLaws.{put-nil, put-append}
 use Rattle.answers.specs.declared.Answer.{Answer}
 use Rattle.answers.specs.declared.Answer.the-variants.{Text}
 use Rattle.answers.specs.Numbers.{numbers, refuses}
 use Rattle.tables.specs.Tables.{Now, nodeWidth, edgeWidth, refWidth, Tables}
 use Rattle.tables.specs.Rules.{mostNodes, mostEdges, mostRefs}
-use Rattle.lines.specs.Lines.{oneLine, joined}
+use Rattle.lines.specs.Lines.{numberText, numbersText, oneLine}
 use Rattle.lines.proofs.WriteLaws.{one-short}
-use Rattle.text.specs.declared.read.Reading.{Reading}
-use Rattle.text.specs.Text.{Lendable}
-use Rattle.text.specs.Answers.{Fits, Read, wrong-text, no-room, took, fronts}
+use Rattle.text.specs.declared.read.TextReading.{TextReading}
+use Rattle.text.specs.Text.{Lendable, commas}
+use Rattle.text.specs.Answers.{Fits, Read, wrong-text, no-room, took}
 use Rattle.text.proofs.RoundTrip.{accepted-unique, accepted-or-not, place-unique}
-use Rattle.text.proofs.PromiseLaws.{short-not-fits, read-fronts}
+use Rattle.text.proofs.PromiseLaws.{short-not-fits, fronts, read-fronts}
 use Rattle.verdict.specs.Checked.{Checked}
 use Rattle.verdict.proofs.CheckedLaws.{checked-unique, checked-exists}
-use Rattle.check_history.specs.Says.{Says, unread, read, codeKey, instantKey, placeKey, printed, mostOutput}
+use Rattle.check_history.specs.Says.{Says, unread, read, printed, mostOutput}
 
 most-fits : (t : Tables) {n e f : List ℕ} → Lendable t → length n ≡ mostNodes * nodeWidth
     → length e ≡ mostEdges * edgeWidth
@@ -46,7 +46,7 @@ front-fits : (old vs : List ℕ) → length vs ≤ length (front vs old)
 front-fits old vs = omega (arith, length-append vs (drop (length vs) old))
 
 module _ {s n e f : List ℕ} where
-  pub unread-says : {r : Reading} {n′ e′ f′ : List ℕ} → Read s n e f r n′ e′ f′ → length n ≡ mostNodes * nodeWidth
+  pub unread-says : {r : TextReading} {n′ e′ f′ : List ℕ} → Read s n e f r n′ e′ f′ → length n ≡ mostNodes * nodeWidth
       → length e ≡ mostEdges * edgeWidth
       → length f ≡ mostRefs * refWidth
       → refuses (r .answer) ≡ true
@@ -55,7 +55,7 @@ module _ {s n e f : List ℕ} where
   unread-says (no-room {t} a x) i j k c = absurd (short-not-fits x (most-fits t (a .lendable) i j k))
   unread-says (took a h) i j k c = absurd (false≢true c)
 
-  pub read-fits : {r : Reading} {n′ e′ f′ : List ℕ} → Read s n e f r n′ e′ f′ → refuses (r .answer) ≡ false
+  pub read-fits : {r : TextReading} {n′ e′ f′ : List ℕ} → Read s n e f r n′ e′ f′ → refuses (r .answer) ≡ false
       → (r .nodes * nodeWidth ≤ length n′) × (r .edges * edgeWidth ≤ length e′) × (r .refs * refWidth ≤ length f′)
   read-fits (wrong-text x p) c = absurd (false≢true (sym c))
   read-fits (no-room a x) c = absurd (false≢true (sym c))
@@ -65,7 +65,7 @@ module _ {s n e f : List ℕ} where
     omega (arith, front-fits f (t .refs .numbers)),
   )
 
-  pub read-says : {r : Reading} {n′ e′ f′ : List ℕ} {a : Answer} → Read s n e f r n′ e′ f′
+  pub read-says : {r : TextReading} {n′ e′ f′ : List ℕ} {a : Answer} → Read s n e f r n′ e′ f′
       → refuses (r .answer) ≡ false
       → Checked (fronts r n′ e′ f′) a
       → Says s a
@@ -85,18 +85,18 @@ says-exists s =
     (accepted-or-not s)
 
 -- three lines that were put one after the other
-module _ {out x y out′ : List ℕ} {c i p l m n : ℕ} (first : Put out 0 (oneLine codeKey c) x l)
-    (second : Put x l (oneLine instantKey i) y m) (third : Put y m (oneLine placeKey p) out′ n) where
+module _ {out x y out′ : List ℕ} {c i p l m n : ℕ} (first : Put out 0 (oneLine (bytes "code=") c) x l)
+    (second : Put x l (oneLine (bytes "instant=") i) y m) (third : Put y m (oneLine (bytes "place=") p) out′ n) where
   pub put-printed : (a : Answer) → c ≡ numbers a .code → i ≡ numbers a .instant → p ≡ numbers a .place
       → Put out 0 (printed a) out′ n
-  unfolding joined
+  unfolding joined commas numbersText numberText
   put-printed a e f g = rw (← e, ← f, ← g) (put-append first (put-append second (put-append third (put-nil _ _))))
 
   pub printed-most : c ≤ Now → i ≤ Now → p ≤ Now → n ≤ mostOutput
   printed-most a b d =
       omega (
         arith,
-        one-short codeKey c (omega arith) a,
-        one-short instantKey i (omega arith) b,
-        one-short placeKey p (omega arith) d,
+        one-short (bytes "code=") c (omega arith) a,
+        one-short (bytes "instant=") i (omega arith) b,
+        one-short (bytes "place=") p (omega arith) d,
       )

@@ -1,22 +1,25 @@
--- What the program prints.
+-- What the program prints, in the words of `text` (specs/Text.antt, Answers.antt) and of `verdict` (Checked.antt).
+-- The exception: `main` has no `ensures`, for no contract can speak of what a program reads and writes. It hands the
+-- whole of what was read to `report`, and the whole of what that put to the output; as far as its contract goes it
+-- could hand on any part of either.
 --   Says     of a text: the answer of read text if that refused, else that of check on the tables that were read
 --   mostInput, mostOutput   at most so many bytes are read, and printed
 --   Prints   of an input, of which nothing is read past mostInput bytes
---   codeKey, instantKey, placeKey   the keys of the three lines
 --   printed  the three lines of an answer; Reported: they are put at the front of an output
 -- Assumes nothing.
 use mathlib.Core.List.{List, [], _∷_}
 use Prim.Native.Nat.{ℕ, _*_, _≤_, _<_}
 use lib.ListN.{length}
 use Rattle.ground.specs.Stores.{Put}
+use Rattle.ground.specs.Lists.{joined}
 use Rattle.answers.specs.declared.Answer.{Answer}
 use Rattle.answers.specs.declared.Answer.the-variants.{Text}
 use Rattle.answers.specs.Numbers.{numbers}
 use Rattle.tables.specs.Tables.{Tables}
-use Rattle.lines.specs.Lines.{oneLine, joined}
+use Rattle.decimals.specs.Decimals.{dec}
 use Rattle.lines.specs.Sizes.{mostLine}
-use Rattle.text.specs.Place.{FirstWrong}
-use Rattle.text.specs.Answers.{Accepted, NotOfForm}
+use Rattle.text.specs.Text.{line}
+use Rattle.text.specs.Answers.{FirstWrong, Accepted, NotOfForm}
 use Rattle.verdict.specs.Checked.{Checked}
 
 -- [01:The text] "the code, instant and place of read if that refused, else of check"
@@ -33,21 +36,12 @@ pub data Prints (s : List ℕ) : Answer → Type 0 where
   long : mostInput < length s → Prints s (Text mostInput)
 
 -- [01:The text] "and prints three lines: the code, instant and place"
-abbrev pub codeKey : List ℕ
-codeKey = 99 ∷ 111 ∷ 100 ∷ 101 ∷ 61 ∷ []
-
-abbrev pub instantKey : List ℕ
-instantKey = 105 ∷ 110 ∷ 115 ∷ 116 ∷ 97 ∷ 110 ∷ 116 ∷ 61 ∷ []
-
-abbrev pub placeKey : List ℕ
-placeKey = 112 ∷ 108 ∷ 97 ∷ 99 ∷ 101 ∷ 61 ∷ []
-
 abbrev pub printed : Answer → List ℕ
 printed a =
     joined
-    (oneLine codeKey (numbers a .code)
-    ∷ oneLine instantKey (numbers a .instant)
-    ∷ oneLine placeKey (numbers a .place)
+    (line "code=" (dec (numbers a .code) ∷ [])
+    ∷ line "instant=" (dec (numbers a .instant) ∷ [])
+    ∷ line "place=" (dec (numbers a .place) ∷ [])
     ∷ [])
 
 abbrev pub mostOutput : ℕ

@@ -8,7 +8,8 @@ use native.Mathlib.Nat.{not-suc-le-zero, pow-suc}
 use lib.ListN.{length, length-append}
 use borrow.Author.Tests.{lt-ltb, le-ltb}
 use Rattle.ground.proofs.TestLaws.{by-lt}
-use Rattle.decimals.specs.Decimals.{nought, nine, decF, dec}
+use Rattle.decimals.specs.Decimals.{nought, decF, dec}
+use Rattle.decimals.specs.Reads.{nine}
 
 decF-small : (k n : ℕ) → n < 10 → decF k n ≡ (nought + n) ∷ []
 unfolding decF

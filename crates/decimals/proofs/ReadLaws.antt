@@ -11,7 +11,8 @@ use lib.ListN.{length, getD, drop, drop-of-length-le, length-append}
 use borrow.Author.Tests.{lt-ltb, le-ltb, le-leb, ltb-false, leb-true, eqb-true, eqb-false, ne-eqb}
 use Rattle.ground.proofs.TestLaws.{by-test}
 use Rattle.ground.proofs.ListLaws.{drop-step}
-use Rattle.decimals.specs.Decimals.{nought, nine, dec, grows, more, num, numAt}
+use Rattle.decimals.specs.Decimals.{nought, dec}
+use Rattle.decimals.specs.Reads.{nine, grows, more, num, numAt}
 use Rattle.decimals.specs.declared.Num.the-variants.{Is, Missing}
 use Rattle.decimals.proofs.DecimalLaws.{by-digits, dec-small, dec-snoc, dec-more, dec-length-snoc, dec-pos}
 
@@ -39,13 +40,13 @@ grows-is hi v c g =
     simp (le-ltb c nought (g .low), le-ltb nine c (g .high), le-leb (v * 10 + (c - nought)) hi (g .small))
 
 -- v has been read up to place i, and reading goes on from there
-pub record Reading (hi first : ℕ) (s : List ℕ) (at v i : ℕ) : Type 0 where
+pub record ReadSoFar (hi first : ℕ) (s : List ℕ) (at v i : ℕ) : Type 0 where
   pub rest : more hi first at (drop at s) ≡ more hi v i (drop i s)
   pub small : v ≤ hi
 
-module _ {hi first : ℕ} {s : List ℕ} {at v i : ℕ} (r : Reading hi first s at v i) where
+module _ {hi first : ℕ} {s : List ℕ} {at v i : ℕ} (r : ReadSoFar hi first s at v i) where
   pub more-turn : i < length s → grows hi v (getD s i 0) ≡ true
-      → Reading hi first s at (v * 10 + (getD s i 0 - nought)) (i + 1)
+      → ReadSoFar hi first s at (v * 10 + (getD s i 0 - nought)) (i + 1)
   unfolding more
   more-turn h g = record { rest = r .rest ∙ rw (drop-step s i h, g); small = grows-true hi v (getD s i 0) g .small }
 
@@ -84,10 +85,10 @@ pub record NumIs (hi i : ℕ) (xs : List ℕ) (v n : ℕ) : Type 0 where
 
 -- ---- a decimal that was written is read
 
-abbrev Head : ℕ → ℕ → ℕ → Type 0
-Head hi i v = (ys : List ℕ) → 1 ≤ v → v ≤ hi → num hi i (dec v ++ ys) ≡ more hi v (i + length (dec v)) ys
+abbrev HeadRead : ℕ → ℕ → ℕ → Type 0
+HeadRead hi i v = (ys : List ℕ) → 1 ≤ v → v ≤ hi → num hi i (dec v ++ ys) ≡ more hi v (i + length (dec v)) ys
 
-head-one : (hi i v : ℕ) → v < 10 → Head hi i v
+head-one : (hi i v : ℕ) → v < 10 → HeadRead hi i v
 unfolding num
 head-one hi i v s ys p h =
     let e = dec-small v s in
@@ -97,7 +98,7 @@ head-one hi i v s ys p h =
     let d : nought + v - nought ≡ v = omega arith in
     rw (e, n, g, d)
 
-head-last : (hi i v : ℕ) → 10 ≤ v → Head hi i (v / 10) → Head hi i v
+head-last : (hi i v : ℕ) → 10 ≤ v → HeadRead hi i (v / 10) → HeadRead hi i v
 unfolding more
 head-last hi i v b ih ys p h =
     let g : grows hi (v / 10) (nought + v % 10) ≡ true = grows-is hi (v / 10) (nought + v % 10)
@@ -109,8 +110,8 @@ head-last hi i v b ih ys p h =
     ∙ ih ((nought + v % 10) ∷ ys) (omega arith) (omega arith)
     ∙ rw (g, d, k)
 
-num-head : (hi i v : ℕ) → Head hi i v
-num-head hi i = by-digits (Head hi i) (head-one hi i) (head-last hi i)
+num-head : (hi i v : ℕ) → HeadRead hi i v
+num-head hi i = by-digits (HeadRead hi i) (head-one hi i) (head-last hi i)
 
 more-stops : (hi v i c : ℕ) (ys : List ℕ) → c < nought → more hi v i (c ∷ ys) ≡ Is v i
 unfolding more grows

@@ -2,7 +2,8 @@
 ghost use mathlib.Core.Path.{_≡_};
 ghost use Prim.Native.Nat.{_+_, _≤_};
 ghost use lib.ListN.{length, drop};
-ghost use Rattle.decimals.specs.Decimals.{dec, grows, more, numAt};
+ghost use Rattle.decimals.specs.Decimals.{dec};
+ghost use Rattle.decimals.specs.Reads.{grows, more, numAt};
 ghost use Rattle.ground.specs.Stores.{Put};
 
 // A number that was read, with the place after it; or none stands there, and what stands there begins one up to this

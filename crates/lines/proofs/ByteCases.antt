@@ -4,7 +4,7 @@ use mathlib.Core.List.{List, [], _∷_}
 use mathlib.Core.Path.{_≡_, refl}
 use Prim.Native.Nat.{ℕ}
 use Rattle.tables.specs.Tables.{Now}
-use Rattle.decimals.specs.Decimals.{grows, more, num, numAt}
+use Rattle.decimals.specs.Reads.{grows, more, num, numAt}
 use Rattle.lines.specs.declared.form.Form.{Form}
 use Rattle.lines.specs.Lines.{oneForm, rowForm}
 use Rattle.lines.specs.Reads.{wrong, begun, begunAt, atLeast, orNow, numberAt, thenNumber, numbersAt, lineAt}

@@ -10,13 +10,13 @@ use Rattle.decimals.specs.declared.Num.the-variants.{Is, Missing}
 use Rattle.lines.specs.declared.form.Form.{Form}
 use Rattle.lines.specs.declared.read.Ended.{Ended}
 use Rattle.lines.specs.declared.read.Ended.the-variants.{At, Wrong}
-use Rattle.lines.specs.Reads.{linesAt, endOf, EndsWithin, thenEnded, oneOf, NumWithin, thenNum}
+use Rattle.lines.specs.Reads.{linesAt, endedOf, EndsWithin, thenEnded, oneOf, NumWithin, thenNum}
 use Rattle.lines.proofs.GotLaws.{by-got}
 use Rattle.lines.proofs.LineLaws.{lines-is}
 
 module _ (k : List ℕ) (f : Form) (s : List ℕ) (m i : ℕ) (h : i ≤ length s) where
-  pub lines-end : {x : Ended} → x ≡ endOf (linesAt k f s m i) → EndsWithin s x
-  unfolding endOf
+  pub lines-end : {x : Ended} → x ≡ endedOf (linesAt k f s m i) → EndsWithin s x
+  unfolding endedOf
   lines-end e =
       subst⁻¹ (EndsWithin s) e (by-got (linesAt k f s m i)
       (λ vs n g. rw g (stands-within h (lines-is k f s m i vs n g .stands)))
@@ -30,7 +30,7 @@ module _ (k : List ℕ) (f : Form) (s : List ℕ) (m i : ℕ) (h : i ≤ length 
       (λ p g. rw g tt))
 
 module _ (k : List ℕ) (f : Form) (s : List ℕ) (m : ℕ) where
-  pub then-lines-end : (x : Ended) {y : Ended} → EndsWithin s x → y ≡ thenEnded x (λ i. endOf (linesAt k f s m i))
+  pub then-lines-end : (x : Ended) {y : Ended} → EndsWithin s x → y ≡ thenEnded x (λ i. endedOf (linesAt k f s m i))
       → EndsWithin s y
   unfolding thenEnded
   then-lines-end (At i) h e = lines-end k f s m i h e

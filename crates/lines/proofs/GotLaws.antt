@@ -9,7 +9,7 @@ use Rattle.decimals.specs.declared.Num.{Num}
 use Rattle.decimals.specs.declared.Num.the-variants.{Is, Missing}
 use Rattle.lines.specs.declared.read.Ended.the-variants.{At, Wrong}
 use Rattle.lines.specs.Reads.{Got, got, wrong, andThen, onLine, refusedAt, onto, thenNumber, isGot, gotOf}
-use Rattle.lines.specs.Reads.{numbersOf, endOf, placeOf}
+use Rattle.lines.specs.Reads.{numbersOf, endedOf, placeOf}
 
 module _ {A : Type 0} where
   -- cases on what was read, with the equation
@@ -41,21 +41,21 @@ module _ {A : Type 0} where
   is-got none (got a n) g = refl
   is-got none (wrong p) g = let z : _≡_ {A = ℕ} 0 1 = cc in absurd (omega arith)
 
-  pub end-got : (r : Got A) {a : A} {n : ℕ} → r ≡ got a n → endOf r ≡ At n
-  unfolding endOf
-  end-got r e = ap endOf e
+  pub end-got : (r : Got A) {a : A} {n : ℕ} → r ≡ got a n → endedOf r ≡ At n
+  unfolding endedOf
+  end-got r e = ap endedOf e
 
-  pub end-wrong : (r : Got A) {p : ℕ} → r ≡ wrong p → endOf r ≡ Wrong p
-  unfolding endOf
-  end-wrong r e = ap endOf e
+  pub end-wrong : (r : Got A) {p : ℕ} → r ≡ wrong p → endedOf r ≡ Wrong p
+  unfolding endedOf
+  end-wrong r e = ap endedOf e
 
-  pub at-got : (r : Got A) (n : ℕ) → endOf r ≡ At n → (a : A) × (r ≡ got a n)
-  unfolding endOf
+  pub at-got : (r : Got A) (n : ℕ) → endedOf r ≡ At n → (a : A) × (r ≡ got a n)
+  unfolding endedOf
   at-got (got a m) n e = let q : m ≡ n = cc in (a, ap (got a) q)
   at-got (wrong p) n e = let z : _≡_ {A = ℕ} 0 1 = cc in absurd (omega arith)
 
-  pub at-wrong : (r : Got A) (p : ℕ) → endOf r ≡ Wrong p → r ≡ wrong p
-  unfolding endOf
+  pub at-wrong : (r : Got A) (p : ℕ) → endedOf r ≡ Wrong p → r ≡ wrong p
+  unfolding endedOf
   at-wrong (got a m) p e = let z : _≡_ {A = ℕ} 0 1 = cc in absurd (omega arith)
   at-wrong (wrong q) p e = let h : q ≡ p = cc in ap wrong h
 
@@ -112,8 +112,8 @@ got-cond false p r vs n e = let z : _≡_ {A = ℕ} 0 1 = cc in absurd (omega ar
 
 -- ---- under `onto`
 
-pub onto-end : (vs : List ℕ) (r : Got (List ℕ)) → endOf (onto vs r) ≡ endOf r
-unfolding endOf onto
+pub onto-end : (vs : List ℕ) (r : Got (List ℕ)) → endedOf (onto vs r) ≡ endedOf r
+unfolding endedOf onto
 onto-end vs (got us n) = refl
 onto-end vs (wrong p) = refl
 

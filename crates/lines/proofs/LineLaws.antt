@@ -1,19 +1,19 @@
 -- The numbers of a line, a line, and lines: what is printed is read, and what is read was printed. Assumes nothing.
 use mathlib.Core.List.{List, [], _∷_, _++_, append-assoc}
 use mathlib.Core.Path.{_≡_, refl, sym, ap, ap₂, _∙_}
-use Prim.Native.Nat.{ℕ, zero, suc, _+_, _-_, _*_, _≤_, _<_}
+use Prim.Native.Nat.{ℕ, zero, suc, _+_, _*_, _≤_, _<_}
 use native.Mathlib.Omega.{arith}
 use native.Mathlib.Nat.{zero-mul, suc-mul}
 use lib.Dec.{eqb}
 use lib.ListN.{length, getD, drop, take, replicate, length-append, length-drop, length-replicate, take-append-drop}
 use lib.Seq.{take-add, take-at, drop-at}
 use borrow.Author.Tests.{eqb-true, eq-eqb}
-use Rattle.ground.specs.Lists.{Stands}
+use Rattle.ground.specs.Lists.{Stands, joined}
 use Rattle.ground.proofs.ListLaws.{stands-nil, stands-append, stands-one, head-at, rest-at}
 use Rattle.decimals.specs.Decimals.{nought}
 use Rattle.lines.specs.declared.form.Form.{Form}
-use Rattle.lines.specs.Lines.{widthOf, isEnd, mark, numberText, numbersText, lineText, linesOf, joined, linesText}
-use Rattle.lines.specs.Lines.{rowOf, NumberOk, NumbersOk, RowOk, LinesOk}
+use Rattle.lines.specs.Lines.{widthOf, isEnd, mark, numberText, numbersText, lineText, linesOf, linesText, rowOf}
+use Rattle.lines.specs.Lines.{NumberOk, NumbersOk, RowOk, LinesOk}
 use Rattle.lines.specs.Reads.{got, andThen, begunAt, hasAt, onLine, onto, thenNumber, numbersAt, lineAt, linesAt}
 use Rattle.lines.specs.Reads.{numberAt}
 use Rattle.lines.proofs.GotLaws.{got-then, got-line, got-onto, got-number, got-cond}

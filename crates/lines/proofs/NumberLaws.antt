@@ -12,7 +12,8 @@ use borrow.Author.Tests.{eqb-true, eqb-false, eq-eqb, ne-eqb, le-leb, leb-true}
 use Rattle.ground.specs.Lists.{Stands}
 use Rattle.ground.proofs.TestLaws.{by-test}
 use Rattle.tables.specs.Tables.{Now}
-use Rattle.decimals.specs.Decimals.{nought, nine, dec, numAt}
+use Rattle.decimals.specs.Decimals.{nought, dec}
+use Rattle.decimals.specs.Reads.{nine, numAt}
 use Rattle.decimals.specs.declared.Num.{Num}
 use Rattle.decimals.specs.declared.Num.the-variants.{Is, Missing}
 use Rattle.decimals.proofs.DecimalLaws.{by-digits, dec-small, dec-snoc}

@@ -8,11 +8,11 @@ use native.Mathlib.Nat.{zero-mul}
 use native.Mathlib.Omega.{arith}
 use lib.ListN.{length, take, drop, replicate, length-replicate, length-append}
 use lib.Seq.{take-nil}
-use Rattle.ground.specs.Lists.{Stands}
+use Rattle.ground.specs.Lists.{Stands, joined}
 use Rattle.ground.proofs.ListLaws.{stands-nil, stands-append, rest-at}
 use Rattle.tables.specs.Tables.{Now}
 use Rattle.lines.specs.declared.form.Form.{Form}
-use Rattle.lines.specs.Lines.{widthOf, isEnd, lineText, linesOf, joined, rowOf, NumberOk, NumbersOk, LinesOk}
+use Rattle.lines.specs.Lines.{widthOf, isEnd, lineText, linesOf, rowOf, NumberOk, NumbersOk, LinesOk}
 use Rattle.lines.specs.Reads.{got, wrong, onto, onLine, lineAt, linesAt, placeOf}
 use Rattle.lines.proofs.GotLaws.{by-got, got-not-wrong, wrong-place, then-got, then-wrong, line-got, line-wrong}
 use Rattle.lines.proofs.GotLaws.{wrong-onto, onto-place}
@@ -85,7 +85,7 @@ least f zero = []
 least f (suc m) = rowOf f (replicate (f .columns) (f .least)) ++ least f m
 
 -- m lines with the key of which the first j stand from place i up to place q
-pub record Before (k : List ℕ) (f : Form) (s : List ℕ) (m i q : ℕ) : Type 0 where
+pub record FirstStand (k : List ℕ) (f : Form) (s : List ℕ) (m i q : ℕ) : Type 0 where
   pub numbers : List ℕ
   pub count : ℕ
   pub ok : LinesOk f m numbers
@@ -94,7 +94,7 @@ pub record Before (k : List ℕ) (f : Form) (s : List ℕ) (m i q : ℕ) : Type 
   pub stands : Stands s i (joined (take count (linesOf k f m numbers))) q
 
 module _ (k : List ℕ) (f : Form) (s : List ℕ) (o : FormOk f) where
-  pub none-before : (m i : ℕ) → Before k f s m i i
+  pub none-before : (m i : ℕ) → FirstStand k f s m i i
   unfolding least joined
   none-before m i =
       record {
@@ -118,7 +118,7 @@ module _ (k : List ℕ) (f : Form) (s : List ℕ) (o : FormOk f) where
       long zero = sym (zero-mul (widthOf f))
       long (suc m) = long-cons k f (replicate (f .columns) (f .least)) wide m (least f m) (long m)
 
-  one-before : (m i j q : ℕ) (us : List ℕ) → LineIs k f s i us j → Before k f s m j q → Before k f s (suc m) i q
+  one-before : (m i j q : ℕ) (us : List ℕ) → LineIs k f s i us j → FirstStand k f s m j q → FirstStand k f s (suc m) i q
   unfolding joined
   one-before m i j q us a b =
       record {
@@ -130,7 +130,7 @@ module _ (k : List ℕ) (f : Form) (s : List ℕ) (o : FormOk f) where
         stands = rw (lines-cons k f us (a .long) m (b .numbers)) (stands-append (a .stands) (b .stands));
       }
 
-  pub lines-before : (m i q : ℕ) → linesAt k f s m i ≡ wrong q → Before k f s m i q
+  pub lines-before : (m i q : ℕ) → linesAt k f s m i ≡ wrong q → FirstStand k f s m i q
   unfolding linesAt
   lines-before zero i q e = got-not-wrong _ refl e
   lines-before (suc m) i q e =
@@ -140,4 +140,4 @@ module _ (k : List ℕ) (f : Form) (s : List ℕ) (o : FormOk f) where
       (lines-before m j q (wrong-onto (rowOf f us) (linesAt k f s m j) q (sym (after-line k f s m i us j g) ∙ e))))
       (λ p g.
       let c : i ≡ q = sym (wrong-place _ (at-line k f s m i p g)) ∙ wrong-place (linesAt k f s (suc m) i) e in
-      subst (Before k f s (suc m) i) c (none-before (suc m) i))
+      subst (FirstStand k f s (suc m) i) c (none-before (suc m) i))

@@ -1,5 +1,5 @@
--- Reading by a plan, over every plan: what is printed by it is read (`plan-of`), what is read was printed by it
--- (`plan-is`), reading goes as far as lines that it prints stand (`plan-past`), and where it is refused, such lines
+-- Reading by a plan, over every plan: what is laid out by it is read (`plan-of`), what is read was laid out by it
+-- (`plan-is`), reading goes as far as lines that it lays out stand (`plan-past`), and where it is refused, such lines
 -- stand (`plan-before`). Assumes nothing.
 use mathlib.Core.List.{List, [], _∷_, _++_, append-assoc}
 use mathlib.Core.Path.{_≡_, refl, sym, ap, subst, _∙_}
@@ -7,16 +7,16 @@ use Prim.Native.Nat.{ℕ, zero, suc, _+_, _-_, _≤_}
 use native.Mathlib.Omega.{arith}
 use lib.ListN.{length, take, drop, length-append}
 use lib.Seq.{take-nil, take-append-le, take-append-add}
-use Rattle.ground.specs.Lists.{Stands}
+use Rattle.ground.specs.Lists.{Stands, joined}
 use Rattle.ground.proofs.TestLaws.{by-lt}
 use Rattle.ground.proofs.ListLaws.{stands-nil, stands-append, rest-at}
 use Rattle.lines.specs.declared.form.Form.{Form}
-use Rattle.lines.specs.Lines.{widthOf, linesOf, joined, linesText}
+use Rattle.lines.specs.Lines.{widthOf, linesOf, linesText}
 use Rattle.lines.specs.Reads.{got, wrong, andThen, linesAt, placeOf}
-use Rattle.lines.specs.Plans.{Plan, stop, lines, follow, planAt, Prints}
+use Rattle.lines.specs.Plans.{Plan, stop, lines, planThen, planAt, LaysOut}
 use Rattle.lines.proofs.GotLaws.{by-got, got-not-wrong, got-place, wrong-place, then-got, then-wrong, got-then}
 use Rattle.lines.proofs.LineLaws.{LinesIs, lines-of, lines-is}
-use Rattle.lines.proofs.PlaceLaws.{FormOk, Before, lines-mono, lines-past, none-before, lines-before}
+use Rattle.lines.proofs.PlaceLaws.{FormOk, FirstStand, lines-mono, lines-past, none-before, lines-before}
 
 -- ---- lines, joined
 
@@ -68,34 +68,34 @@ module _ (k : List ℕ) (f : Form) (m : ℕ) (vs : List ℕ) (rest : List (List 
 
 -- ---- a plan that follows another
 
-pub follow-at : {A B : Type 0} (p : Plan A) (go : A → Plan B) (s : List ℕ) (i : ℕ)
-    → planAt (follow p go) s i ≡ andThen (planAt p s i) (λ a n. planAt (go a) s n)
-unfolding planAt follow andThen
-follow-at (stop a) go s i = refl
-follow-at (lines k f m next) go s i =
+pub planThen-at : {A B : Type 0} (p : Plan A) (go : A → Plan B) (s : List ℕ) (i : ℕ)
+    → planAt (planThen p go) s i ≡ andThen (planAt p s i) (λ a n. planAt (go a) s n)
+unfolding planAt planThen andThen
+planThen-at (stop a) go s i = refl
+planThen-at (lines k f m next) go s i =
     by-got (linesAt k f s m i)
-    (λ vs n e. rw e (follow-at (next vs) go s n))
+    (λ vs n e. rw e (planThen-at (next vs) go s n))
     (λ p e. rw e)
 
 module _ {A : Type 0} where
   -- ---- the round trips
 
-  pub plan-of : (p : Plan A) (a : A) (ls : List (List ℕ)) (s : List ℕ) (i : ℕ) (ys : List ℕ) → Prints p a ls
+  pub plan-of : (p : Plan A) (a : A) (ls : List (List ℕ)) (s : List ℕ) (i : ℕ) (ys : List ℕ) → LaysOut p a ls
       → drop i s ≡ joined ls ++ ys
       → planAt p s i ≡ got a (i + length (joined ls))
   unfolding planAt joined
   plan-of (stop b) a ls s i ys (q, none) e = rw (none, q) (ap (got a) (omega arith))
-  plan-of (lines k f m next) a ls s i ys (vs, rest, ok, long, prints, all) e =
+  plan-of (lines k f m next) a ls s i ys (vs, rest, ok, long, laid, all) e =
       let x = linesText k f m vs in
       let j : joined ls ≡ x ++ joined rest = ap joined all ∙ joined-append (linesOf k f m vs) rest in
       let here : drop i s ≡ x ++ (joined rest ++ ys) = e ∙ ap (λ (r : List ℕ). r ++ ys) j
       ∙ append-assoc x (joined rest) ys in
-      let ih = plan-of (next vs) a rest s (i + length x) ys prints (rest-at s i x (joined rest ++ ys) here) in
+      let ih = plan-of (next vs) a rest s (i + length x) ys laid (rest-at s i x (joined rest ++ ys) here) in
       then-got _ _ (lines-of k f s m i vs (joined rest ++ ys) ok long here) ∙ ih
       ∙ ap (got a) (omega (arith, ap length j, length-append x (joined rest)))
 
   pub plan-is : (p : Plan A) (s : List ℕ) (i : ℕ) (a : A) (n : ℕ) → planAt p s i ≡ got a n
-      → (ls : List (List ℕ)) × Prints p a ls × Stands s i (joined ls) n
+      → (ls : List (List ℕ)) × LaysOut p a ls × Stands s i (joined ls) n
   unfolding planAt joined
   plan-is (stop b) s i a n e =
       let q : b ≡ a = cc in
@@ -104,9 +104,9 @@ module _ {A : Type 0} where
   plan-is (lines k f m next) s i a n e =
       let (vs, j, r, e₁) = got-then _ (linesAt k f s m i) a n e in
       let is = lines-is k f s m i vs j r in
-      let (ls, prints, st) = plan-is (next vs) s j a n e₁ in (
+      let (ls, laid, st) = plan-is (next vs) s j a n e₁ in (
         linesOf k f m vs ++ ls,
-        (vs, ls, is .ok, is .long, prints, refl),
+        (vs, ls, is .ok, is .long, laid, refl),
         rw (joined-append (linesOf k f m vs) ls) (stands-append (is .stands) st),
       )
 
@@ -126,13 +126,13 @@ module _ {A : Type 0} where
   run-mono k f m next s i =
       by-got (linesAt k f s m i) (λ vs n e. rw e (plan-mono (next vs) s n)) (λ p e. rw e (omega arith))
 
-  pub plan-past : (p : Plan A) (a : A) (ls : List (List ℕ)) (s : List ℕ) (i j n : ℕ) → Prints p a ls
+  pub plan-past : (p : Plan A) (a : A) (ls : List (List ℕ)) (s : List ℕ) (i j n : ℕ) → LaysOut p a ls
       → Stands s i (joined (take j ls)) n
       → n ≤ placeOf (planAt p s i)
   unfolding planAt joined
   plan-past (stop b) a ls s i j n (q, none) st =
       let t = rw (none, take-nil j) at st in omega (arith, t .after, plan-mono (stop b) s i)
-  plan-past (lines k f m next) a ls s i j n (vs, rest, ok, long, prints, all) st₀ =
+  plan-past (lines k f m next) a ls s i j n (vs, rest, ok, long, laid, all) st₀ =
       let st : Stands s i (joined (take j (linesOf k f m vs ++ rest))) n = rw all at st₀ in
       by-lt m j
       (λ h.
@@ -142,7 +142,7 @@ module _ {A : Type 0} where
       (lines-of k f s m i vs (joined (take (j - m) rest) ++ drop n s) ok long here) in
       omega (
         arith,
-        plan-past (next vs) a rest s (i + length (linesText k f m vs)) (j - m) n prints after,
+        plan-past (next vs) a rest s (i + length (linesText k f m vs)) (j - m) n laid after,
         ap placeOf
             e,
       ))
@@ -158,30 +158,30 @@ module _ {A : Type 0} where
   FormsOk (stop a) = Unit {0}
   FormsOk (lines k f m next) = FormOk f × ((vs : List ℕ) → FormsOk (next vs))
 
-  plan-some : (p : Plan A) → FormsOk p → (a : A) × (ls : List (List ℕ)) × Prints p a ls
+  plan-some : (p : Plan A) → FormsOk p → (a : A) × (ls : List (List ℕ)) × LaysOut p a ls
   plan-some (stop a) o = (a, [], (refl, refl))
   plan-some (lines k f m next) (o, os) =
       let b = none-before k f [] o m 0 in
-      let (a, ls, prints) = plan-some (next (b .numbers)) (os (b .numbers)) in
-      (a, linesOf k f m (b .numbers) ++ ls, (b .numbers, ls, b .ok, b .long, prints, refl))
+      let (a, ls, laid) = plan-some (next (b .numbers)) (os (b .numbers)) in
+      (a, linesOf k f m (b .numbers) ++ ls, (b .numbers, ls, b .ok, b .long, laid, refl))
 
-  -- lines that the plan prints, of which the first `count` stand from place i up to place q
+  -- lines that the plan lays out, of which the first `count` stand from place i up to place q
   pub record Reached (p : Plan A) (s : List ℕ) (i q : ℕ) : Type 0 where
     pub told : A
     pub all : List (List ℕ)
     pub count : ℕ
-    pub prints : Prints p told all
+    pub laid : LaysOut p told all
     pub stands : Stands s i (joined (take count all)) q
 
   module _ (k : List ℕ) (f : Form) (m : ℕ) (next : List ℕ → Plan A) (s : List ℕ) (i q : ℕ) where
-    reached-run : Before k f s m i q → ((vs : List ℕ) → FormsOk (next vs)) → Reached (lines k f m next) s i q
+    reached-run : FirstStand k f s m i q → ((vs : List ℕ) → FormsOk (next vs)) → Reached (lines k f m next) s i q
     reached-run b os =
-        let (a, ls, prints) = plan-some (next (b .numbers)) (os (b .numbers)) in
+        let (a, ls, laid) = plan-some (next (b .numbers)) (os (b .numbers)) in
         record {
           told = a;
           all = linesOf k f m (b .numbers) ++ ls;
           count = b .count;
-          prints = (b .numbers, ls, b .ok, b .long, prints, refl);
+          laid = (b .numbers, ls, b .ok, b .long, laid, refl);
           stands = rw (within-run k f m (b .numbers) ls (b .count) (b .fewer)) (b .stands);
         }
 
@@ -192,7 +192,7 @@ module _ {A : Type 0} where
           told = r .told;
           all = linesOf k f m vs ++ r .all;
           count = m + r .count;
-          prints = (vs, r .all, is .ok, is .long, r .prints, refl);
+          laid = (vs, r .all, is .ok, is .long, r .laid, refl);
           stands = rw (past-run k f m vs (r .all) (r .count)) (stands-append (is .stands) (r .stands));
         }
 

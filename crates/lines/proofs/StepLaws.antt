@@ -8,10 +8,10 @@ use lib.ListN.{length, getD, drop, drop-of-length-le}
 use borrow.Author.Tests.{eq-eqb, ne-eqb, le-leb, lt-leb}
 use Rattle.ground.proofs.ListLaws.{drop-step, stands-within, within}
 use Rattle.tables.specs.Tables.{Now}
-use Rattle.lines.specs.Reads.{Got, endOf, got, wrong, andThen, begun, begunAt, atLeast, orNow, onto, thenNumber}
+use Rattle.lines.specs.Reads.{Got, endedOf, got, wrong, andThen, begun, begunAt, atLeast, orNow, onto, thenNumber}
 use Rattle.lines.specs.Reads.{numbersAt, refusedAt, onLine, lineAt, linesAt, oneOf, numberAt}
 use Rattle.lines.specs.Lines.{oneForm, isEnd, mark, nowWord, rowOf}
-use Rattle.decimals.specs.Decimals.{numAt}
+use Rattle.decimals.specs.Reads.{numAt}
 use Rattle.decimals.specs.declared.Num.{Num}
 use Rattle.decimals.specs.declared.Num.the-variants.{Is, Missing}
 use Rattle.lines.specs.declared.form.Form.{Form}
@@ -72,9 +72,9 @@ module _ (f : Form) (s : List ℕ) (i : ℕ) (last : Bool) where
     unfolding numberAt orNow
     number-end h = rw (end, ← b, h)
 
-    pub number-now : k ≡ 3 → numberAt f last s i ≡ Is Now (i + k)
+    pub number-now : {v : ℕ} → k ≡ 3 → v ≡ Now → numberAt f last s i ≡ Is v (i + k)
     unfolding numberAt orNow
-    number-now h = rw (end, ← b, h)
+    number-now h e = rw (end, ← b, h, e)
 
     pub number-begun : (k ≡ 0 → ⊥) → (k ≡ 3 → ⊥) → numberAt f last s i ≡ Missing (i + k)
     unfolding numberAt orNow
@@ -120,17 +120,17 @@ mark-within s n w e = within s n (omega (arith, mark-pos w))
 
 -- `left` numbers are to be checked, from place i on
 pub record Checking (f : Form) (s : List ℕ) (from left i : ℕ) : Type 0 where
-  pub rest : endOf (numbersAt f s (f .columns) from) ≡ endOf (numbersAt f s left i)
+  pub rest : endedOf (numbersAt f s (f .columns) from) ≡ endedOf (numbersAt f s left i)
   pub reached : i ≤ length s
 
 module _ {f : Form} {s : List ℕ} {from left i : ℕ} (c : Checking f s from left i) where
   module _ (h : 0 < left) {b : Bool} (e : b ≡ isEnd f (left - 1)) where
-    pub check-missing : {p : ℕ} → numberAt f b s i ≡ Missing p → Wrong p ≡ endOf (numbersAt f s (f .columns) from)
+    pub check-missing : {p : ℕ} → numberAt f b s i ≡ Missing p → Wrong p ≡ endedOf (numbersAt f s (f .columns) from)
     check-missing {p} r =
         sym (c .rest ∙ end-wrong _ (numbers-missing f s left (left - 1) i b (omega arith) e p r))
 
     pub check-mark : {v n : ℕ} → numberAt f b s i ≡ Is v n → (getD s n 0 ≡ mark (left - 1) → ⊥)
-        → Wrong n ≡ endOf (numbersAt f s (f .columns) from)
+        → Wrong n ≡ endedOf (numbersAt f s (f .columns) from)
     check-mark {v} {n} r l =
         sym (c .rest ∙ end-wrong _ (numbers-mark f s left (left - 1) i b (omega arith) e v n r l))
 
@@ -138,12 +138,12 @@ module _ {f : Form} {s : List ℕ} {from left i : ℕ} (c : Checking f s from le
         → Checking f s from (left - 1) (n + 1)
     check-turn {v} {n} r l =
         record {
-          rest = c .rest ∙ ap endOf (numbers-step f s left (left - 1) i b (omega arith) e v n r l)
+          rest = c .rest ∙ ap endedOf (numbers-step f s left (left - 1) i b (omega arith) e v n r l)
               ∙ onto-end (v ∷ []) _;
           reached = omega (arith, mark-within s n (left - 1) l);
         }
 
-  pub check-done : left ≤ 0 → At i ≡ endOf (numbersAt f s (f .columns) from)
+  pub check-done : left ≤ 0 → At i ≡ endedOf (numbersAt f s (f .columns) from)
   check-done h = sym (c .rest ∙ end-got _ (numbers-none f s left i h))
 
 -- ---- a line: n bytes of its key stand there
@@ -160,15 +160,15 @@ module _ (k : List ℕ) (f : Form) (s : List ℕ) (i n : ℕ) (b : n ≡ begunAt
 -- ---- lines: `left` are to be checked, from place i on
 
 pub record CheckingLines (k : List ℕ) (f : Form) (s : List ℕ) (m at left i : ℕ) : Type 0 where
-  pub rest : endOf (linesAt k f s m at) ≡ endOf (linesAt k f s left i)
+  pub rest : endedOf (linesAt k f s m at) ≡ endedOf (linesAt k f s left i)
   pub reached : i ≤ length s
 
 module _ (k : List ℕ) (f : Form) (s : List ℕ) (left m i : ℕ) (more : left ≡ suc m) where
-  lines-wrong : (p : ℕ) → endOf (lineAt k f s i) ≡ Wrong p → endOf (linesAt k f s left i) ≡ Wrong (refusedAt i p)
-  unfolding linesAt onLine andThen endOf
+  lines-wrong : (p : ℕ) → endedOf (lineAt k f s i) ≡ Wrong p → endedOf (linesAt k f s left i) ≡ Wrong (refusedAt i p)
+  unfolding linesAt onLine andThen endedOf
   lines-wrong p e = let r = at-wrong (lineAt k f s i) p e in rw (more, r)
 
-  lines-step : (n : ℕ) → endOf (lineAt k f s i) ≡ At n → endOf (linesAt k f s left i) ≡ endOf (linesAt k f s m n)
+  lines-step : (n : ℕ) → endedOf (lineAt k f s i) ≡ At n → endedOf (linesAt k f s left i) ≡ endedOf (linesAt k f s m n)
   unfolding linesAt onLine andThen
   lines-step n e = let (us, r) = at-got (lineAt k f s i) n e in rw (more, r) (onto-end (rowOf f us) (linesAt k f s m n))
 
@@ -177,11 +177,11 @@ unfolding linesAt
 lines-none k f s left i h = let z : left ≡ 0 = omega arith in rw z
 
 module _ {k : List ℕ} {f : Form} {s : List ℕ} {m at left i : ℕ} (c : CheckingLines k f s m at left i) where
-  pub line-refused : {p : ℕ} → 0 < left → endOf (lineAt k f s i) ≡ Wrong p
-      → Wrong (refusedAt i p) ≡ endOf (linesAt k f s m at)
+  pub line-refused : {p : ℕ} → 0 < left → endedOf (lineAt k f s i) ≡ Wrong p
+      → Wrong (refusedAt i p) ≡ endedOf (linesAt k f s m at)
   line-refused {p} h e = sym (c .rest ∙ lines-wrong k f s left (left - 1) i (omega arith) p e)
 
-  pub line-checked : {n : ℕ} → 0 < left → endOf (lineAt k f s i) ≡ At n → CheckingLines k f s m at (left - 1) n
+  pub line-checked : {n : ℕ} → 0 < left → endedOf (lineAt k f s i) ≡ At n → CheckingLines k f s m at (left - 1) n
   line-checked {n} h e =
       let (us, g) = at-got (lineAt k f s i) n e in
       record {
@@ -189,7 +189,7 @@ module _ {k : List ℕ} {f : Form} {s : List ℕ} {m at left i : ℕ} (c : Check
         reached = stands-within (c .reached) (line-is k f s i us n g .stands);
       }
 
-  pub lines-checked : left ≤ 0 → At i ≡ endOf (linesAt k f s m at)
+  pub lines-checked : left ≤ 0 → At i ≡ endedOf (linesAt k f s m at)
   lines-checked h = sym (c .rest ∙ end-got _ (lines-none k f s left i h))
 
 -- ---- a line of one number: n bytes of its key stand there

@@ -9,14 +9,17 @@ use lib.Dec.{eqb}
 use lib.ListN.{length, getD, set, drop, length-set, length-append, drop-of-length-le}
 use lib.Seq.{sets, length-sets, drop-drop, getD-drop}
 use Rattle.ground.specs.Stores.{Put}
+use Rattle.ground.specs.Lists.{joined}
 use Rattle.ground.proofs.TestLaws.{by-test}
 use Rattle.ground.proofs.ListLaws.{drop-step, sets-append, put-append}
+use Rattle.tables.specs.declared.label.End.{End}
+use Rattle.tables.specs.declared.label.End.the-variants.{At}
 use Rattle.tables.specs.Tables.{Now}
-use Rattle.decimals.specs.Decimals.{dec}
+use Rattle.tables.specs.Labels.{endOf}
 use Rattle.decimals.proofs.DecimalLaws.{dec-ten}
 use Rattle.lines.specs.declared.form.Form.{Form}
-use Rattle.lines.specs.Lines.{widthOf, nowWord, numberText, numbersFrom, numbersText, oneForm, lineText, oneLine}
-use Rattle.lines.specs.Lines.{linesOf, joined, linesText, mark, isEnd}
+use Rattle.lines.specs.Lines.{widthOf, endText, numberText, numbersFrom, numbersText, oneForm, lineText, oneLine}
+use Rattle.lines.specs.Lines.{linesOf, linesText, mark, isEnd}
 use Rattle.lines.specs.Sizes.{mostNumber, mostKey, mostWidth, mostLine, Long, Countable, CountableLines, Writable}
 use Rattle.lines.specs.Sizes.{WritableLines}
 use Rattle.lines.proofs.FillLaws.{line-room}
@@ -46,11 +49,11 @@ module _ {bytes out₀ : List ℕ} {at : ℕ} {out : List ℕ} {i j : ℕ} (p : 
 
 -- ---- a number
 
-pub number-word : (last : Bool) (v : ℕ) → (last && eqb v Now) ≡ true → numberText last v ≡ nowWord
-unfolding numberText
-number-word last v e = rw e
+pub number-end : (last : Bool) (v : ℕ) {x : End} → last ≡ true → x ≡ endOf v → numberText last v ≡ endText x
+unfolding numberText endOf
+number-end last v e f = rw (e, f) (by-test (eqb v Now) (λ t. rw t) (λ t. rw t))
 
-pub number-finite : (last : Bool) (v : ℕ) → (last && eqb v Now) ≡ false → numberText last v ≡ dec v
+pub number-finite : (last : Bool) (v : ℕ) → last ≡ false → numberText last v ≡ endText (At v)
 unfolding numberText
 number-finite last v e = rw e
 

@@ -1,4 +1,4 @@
--- The second pass of reading.
+-- The second pass of reading, as the contracts of src/read.rt have it: it stores what specs/Reads.antt reads.
 --   Fillable, FillableLines    the numbers of a line, or of m lines, were found right, and have room in out
 --   Filled x old base new n    the numbers that x read stand in `new` from index base on, all else is as in `old`,
 --                              and n is the place after them

@@ -1,15 +1,16 @@
--- A line of any form, as text. A line is its key and then its numbers, each with a comma after it or, the last, with
--- LF.
+-- A line of any form, as text, for the code that reads and writes lines by their forms. A line is its key and then its
+-- numbers, each with a comma after it or, the last, with LF. That the lines of tables' rows are such lines is for the
+-- crate `text` to say (its proofs/TieLaws.antt).
 --   widthOf f              how many numbers a row of the table has: those of its line, and those that it leaves out
 --   oneForm, rowForm       a line of one number between bounds; a row of w numbers, the last perhaps an end
 --   isEnd, mark            of the number that w more follow: whether it is an end; what stands after it
---   nowWord                the word `now`
+--   nowWord                the word `now`; endText: an end
 --   numberText b v         a number of a line: where it is an end, `now` for Now
 --   numbersText f w vs     the first w numbers of vs, with their marks
 --   numbersFrom f vs i     those of the row that begins at index i of vs
 --   lineText, oneLine      a line with a key; a line of one number
 --   rowOf f us             the row of the numbers us of a line: those that lines leave out are 0, and stand last
---   linesOf k f m vs       m lines with the key k, of the numbers vs; `joined` is the text of lines, linesText of these
+--   linesOf k f m vs       m lines with the key k, of the numbers vs; linesText: the text of these
 --   NumberOk, NumbersOk    the numbers are within the bounds of the form
 --   RowOk, LinesOk         the row is that of its line; so are m rows
 -- A line's columns and a row's width are the same in edition 1 ([02:Ask 9] has a row of which lines leave out a
@@ -21,6 +22,9 @@ use mathlib.Core.Path.{_≡_}
 use Prim.Native.Nat.{ℕ, zero, suc, _+_, _≤_}
 use lib.Dec.{eqb}
 use lib.ListN.{take, drop, replicate}
+use Rattle.ground.specs.Lists.{bytes, joined}
+use Rattle.tables.specs.declared.label.End.{End}
+use Rattle.tables.specs.declared.label.End.the-variants.{At, Current}
 use Rattle.tables.specs.Tables.{Now}
 use Rattle.decimals.specs.Decimals.{dec}
 use Rattle.lines.specs.declared.form.Form.{Form}
@@ -45,7 +49,11 @@ mark (suc w) = 44
 
 -- the word `now`
 abbrev pub nowWord : List ℕ
-nowWord = 110 ∷ 111 ∷ 119 ∷ []
+nowWord = bytes "now"
+
+abbrev pub endText : End → List ℕ
+endText Current = nowWord
+endText (At t) = dec t
 
 -- [01:The text] "The fourth number of an edge or ref is `now` where it is 4294967295"
 unfoldable pub numberText : Bool → ℕ → List ℕ
@@ -69,10 +77,6 @@ oneLine k v = lineText k (oneForm 0 Now) (v ∷ [])
 unfoldable pub linesOf : List ℕ → Form → ℕ → List ℕ → List (List ℕ)
 linesOf k f zero vs = []
 linesOf k f (suc m) vs = lineText k f vs ∷ linesOf k f m (drop (widthOf f) vs)
-
-unfoldable pub joined : List (List ℕ) → List ℕ
-joined [] = []
-joined (x ∷ xs) = x ++ joined xs
 
 abbrev pub linesText : List ℕ → Form → ℕ → List ℕ → List ℕ
 linesText k f m vs = joined (linesOf k f m vs)

@@ -1,4 +1,5 @@
--- What stands in a text, by place.
+-- What stands in a text, by place. proofs/LineLaws.antt (`lines-of`, `lines-is`): what is read are the numbers of which
+-- the text has the lines of specs/Lines.antt.
 --   Got A                  what was read, and the place after it; or the place up to which what stands there begins
 --                          what must stand there
 --   andThen                where something was read, go on; thenNumber: where a number was
@@ -10,7 +11,7 @@
 --   lineAt                 a line, refused at a byte within it
 --   refusedAt, onLine      the place that is answered for it
 --   linesAt                m lines, as rows of the table
---   endOf                  what a reader that keeps no numbers answers
+--   endedOf                what a reader that keeps no numbers answers
 --   EndsWithin, thenEnded  it ended within the text; where it was not refused, go on
 --   isGot, gotOf, placeOf  whether something was read; that (or what stands for it), and the place
 --   numbersOf, oneOf       the numbers that were read, or none; the number of a line of one
@@ -26,7 +27,7 @@ use Prim.Native.Nat.{ℕ, zero, suc, _+_, _-_, _≤_}
 use lib.Dec.{leb, eqb}
 use lib.ListN.{length, getD, drop}
 use Rattle.tables.specs.Tables.{Now}
-use Rattle.decimals.specs.Decimals.{numAt}
+use Rattle.decimals.specs.Reads.{numAt}
 use Rattle.decimals.specs.declared.Num.{Num}
 use Rattle.decimals.specs.declared.Num.the-variants.{Is, Missing}
 use Rattle.lines.specs.declared.form.Form.{Form}
@@ -99,9 +100,9 @@ unfoldable pub linesAt : List ℕ → Form → List ℕ → ℕ → ℕ → Got 
 linesAt k f s zero i = got [] i
 linesAt k f s (suc m) i = andThen (onLine i (lineAt k f s i)) (λ us n. onto (rowOf f us) (linesAt k f s m n))
 
-unfoldable pub endOf : {A : Type 0} → Got A → Ended
-endOf (got a n) = At n
-endOf (wrong p) = Wrong p
+unfoldable pub endedOf : {A : Type 0} → Got A → Ended
+endedOf (got a n) = At n
+endedOf (wrong p) = Wrong p
 
 abbrev pub EndsWithin : List ℕ → Ended → Type 0
 EndsWithin s (At n) = n ≤ length s

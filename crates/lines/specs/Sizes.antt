@@ -1,4 +1,4 @@
--- How many bytes lines have, so that counts and places fit the code's numbers.
+-- How many bytes the lines of specs/Lines.antt have, so that counts and places fit the code's numbers.
 --   mostNumber, mostKey    at most so many bytes to a number, and to a key
 --   mostWidth, mostLine    at most so many numbers to a line, and bytes
 --   mostLines              at most so many lines to a run

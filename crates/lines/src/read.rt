@@ -4,7 +4,7 @@ ghost use mathlib.Core.Path.{_≡_};
 ghost use Prim.Native.Nat.{_≤_};
 ghost use lib.ListN.{length, getD};
 ghost use Rattle.lines.specs.Lines.{oneForm};
-ghost use Rattle.lines.specs.Reads.{begunAt, numberAt, numbersAt, lineAt, linesAt, refusedAt, endOf, oneOf};
+ghost use Rattle.lines.specs.Reads.{begunAt, numberAt, numbersAt, lineAt, linesAt, refusedAt, endedOf, oneOf};
 ghost use Rattle.lines.specs.Reads.{EndsWithin, thenEnded, NumWithin, thenNum};
 ghost use Rattle.lines.specs.Fills.{Fillable, FillableLines, Filled};
 use super::form::Form;
@@ -13,6 +13,7 @@ use super::form::mark_after;
 use super::form::one_form;
 use decimals::Num;
 use decimals::read_decimal;
+use tables::label::End;
 use tables::label::NOW;
 
 // Lines that were read, by the place after them; or the place up to which what stands there begins such lines.
@@ -60,7 +61,8 @@ fn read_number(text: &[u8], at: usize, f: Form, last: bool) -> Num
         }
         let after = at + k;
         if k == 3 {
-            return Num::Is(NOW, after);
+            let end = End::Current;
+            return Num::Is(end.instant(), after);
         }
         return Num::Missing(after);
     }
@@ -80,7 +82,7 @@ fn read_number(text: &[u8], at: usize, f: Form, last: bool) -> Num
 // The numbers of a line of form f, from place from on.
 fn check_numbers(text: &[u8], from: usize, f: Form) -> Ended
     requires { ⌜ from ≤ length (now text) ⌝ }
-    ensures { λ r. ⌜ r ≡ endOf (numbersAt f (now (text .entry)) (f .columns) from) ⌝ }
+    ensures { λ r. ⌜ r ≡ endedOf (numbersAt f (now (text .entry)) (f .columns) from) ⌝ }
 {
     let mut i = from;
     let mut left = f.columns;
@@ -105,7 +107,7 @@ fn check_numbers(text: &[u8], from: usize, f: Form) -> Ended
 // A line with the key at place at.
 fn check_line(text: &[u8], at: usize, key: &[u8], f: Form) -> Ended
     requires { ⌜ at ≤ length (now text) ⌝ }
-    ensures { λ r. ⌜ r ≡ endOf (lineAt (now (key .entry)) f (now (text .entry)) at) ⌝ }
+    ensures { λ r. ⌜ r ≡ endedOf (lineAt (now (key .entry)) f (now (text .entry)) at) ⌝ }
 {
     let k = begun(text, at, key);
     let from = at + k;
@@ -126,7 +128,7 @@ fn refused_at(line: usize, byte: usize) -> usize
 // m lines with the key from place at on.
 pub fn check_lines(text: &[u8], at: usize, key: &[u8], f: Form, m: u32) -> Ended
     requires { ⌜ at ≤ length (now text) ⌝ }
-    ensures { λ r. ⌜ r ≡ endOf (linesAt (now (key .entry)) f (now (text .entry)) m at) ⌝ }
+    ensures { λ r. ⌜ r ≡ endedOf (linesAt (now (key .entry)) f (now (text .entry)) m at) ⌝ }
 {
     let mut i = at;
     let mut left = m;
@@ -148,7 +150,7 @@ pub fn check_lines(text: &[u8], at: usize, key: &[u8], f: Form, m: u32) -> Ended
 // The same from where what was read ended, unless it was refused.
 pub fn then_lines(ended: Ended, text: &[u8], key: &[u8], f: Form, m: u32) -> Ended
     requires { ⌜ EndsWithin (now text) ended ⌝ }
-    ensures { λ r. ⌜ r ≡ thenEnded ended (λ i. endOf (linesAt (now (key .entry)) f (now (text .entry)) m i)) ⌝ }
+    ensures { λ r. ⌜ r ≡ thenEnded ended (λ i. endedOf (linesAt (now (key .entry)) f (now (text .entry)) m i)) ⌝ }
 {
     match ended {
         Ended::Wrong(p) => Ended::Wrong(p),

@@ -1,8 +1,9 @@
 // Writing lines, and how many bytes they have: a writer counts first, so that a refusal writes nothing.
+ghost use mathlib.Core.Path.{_≡_};
 ghost use Prim.Native.Nat.{_+_, _*_, _≤_};
 ghost use lib.ListN.{length};
 ghost use Rattle.ground.specs.Stores.{Put};
-ghost use Rattle.lines.specs.Lines.{numberText, numbersFrom, oneLine, linesText};
+ghost use Rattle.lines.specs.Lines.{endText, numberText, numbersFrom, oneLine, linesText};
 ghost use Rattle.lines.specs.Sizes.{Long, mostKey, mostNumber, mostLine, Countable, CountableLines, Writable};
 ghost use Rattle.lines.specs.Sizes.{WritableLines};
 use super::form::Form;
@@ -11,6 +12,7 @@ use super::form::mark_after;
 use super::form::one_form;
 use decimals::decimal_width;
 use decimals::write_decimal;
+use tables::label::End;
 use tables::label::NOW;
 
 // Puts the bytes at place at, and returns the place after them.
@@ -28,15 +30,23 @@ pub fn put(out: &mut [u8], at: usize, bytes: &[u8]) -> usize
     i
 }
 
+// What the number v of a line is written as: an end, if last; any other number is finite.
+fn written_as(v: u32, last: bool) -> End
+    ensures { λ r. ⌜ numberText last v ≡ endText r ⌝ }
+{
+    if last { End::of(v) } else { End::At(v) }
+}
+
 // Puts a number of a line at place at: an end, if last.
 fn write_number(out: &mut [u8], at: usize, v: u32, last: bool) -> usize
     requires { ⌜ at + length (numberText last v) ≤ length (now out) ⌝ }
     ensures { λ r. ⌜ Put (now (out .entry)) at (numberText last v) (now (out .exit)) r ⌝ }
 {
-    if last & (v == NOW) {
-        return put(out, at, b"now");
+    let end = written_as(v, last);
+    match end {
+        End::Current => put(out, at, b"now"),
+        End::At(t) => write_decimal(out, at, t),
     }
-    write_decimal(out, at, v)
 }
 
 // Puts the numbers of a line of form f at place at: those of table from index base on.
@@ -89,10 +99,11 @@ pub fn write_one(out: &mut [u8], at: usize, key: &[u8], v: u32) -> usize
 fn number_len(v: u32, last: bool) -> usize
     ensures { λ r. ⌜ Long (numberText last v) mostNumber r ⌝ }
 {
-    if last & (v == NOW) {
-        return 3;
+    let end = written_as(v, last);
+    match end {
+        End::Current => 3,
+        End::At(t) => decimal_width(t),
     }
-    decimal_width(v)
 }
 
 // How many bytes the numbers of a line have, with their marks.

@@ -1,3 +1,4 @@
+pub mod TieLaws
 pub mod TextLaws
 pub mod RoundTrip
 pub mod SizeLaws

@@ -14,13 +14,14 @@ use Rattle.ground.proofs.TestLaws.{by-test, by-lt}
 use Rattle.answers.specs.declared.Answer.{Answer}
 use Rattle.answers.specs.declared.Answer.the-variants.{Done, Size, Room, Text}
 use Rattle.answers.specs.Numbers.{refuses, passed}
-use Rattle.tables.specs.Tables.{Now, nodeWidth, edgeWidth, refWidth, Table, Tables}
+use Rattle.tables.specs.Tables.{Now, nodeWidth, edgeWidth, refWidth, Table, Tables, lent}
 use Rattle.tables.specs.Rules.{Whole, SizeRule, Sizes, Gives, nodes-size, edges-size, refs-size}
 use Rattle.tables.proofs.GivesLaws.{gives-is, sizes-pass}
-use Rattle.text.specs.declared.read.Reading.{Reading}
+use Rattle.text.specs.declared.read.TextReading.{TextReading}
 use Rattle.text.specs.Text.{Small, LendableTable, Lendable, textOf}
 use Rattle.text.specs.Answers.{Written, out-of-size, short, wrote, Accepted, nothing, readingOf, Fits, TooShort}
-use Rattle.text.specs.Answers.{nodes-short, edges-short, refs-short, Read, wrong-text, no-room, took, fronts}
+use Rattle.text.specs.Answers.{nodes-short, edges-short, refs-short, Read, wrong-text, no-room, took}
+use Rattle.text.proofs.TieLaws.{sizes-of}
 use Rattle.text.proofs.RoundTrip.{accepted-unique, accepted-or-not, place-unique}
 use Rattle.text.proofs.WriteLaws.{sizes, written-size}
 use Rattle.text.proofs.ReadLaws.{judged-short, short-or-fits}
@@ -74,7 +75,7 @@ short-not-fits (nodes-short x) h = omega arith
 short-not-fits (edges-short a x) h = omega arith
 short-not-fits (refs-short a b x) h = omega arith
 
-pub read-unique : {s n e f : List ℕ} {r q : Reading} {n′ e′ f′ n″ e″ f″ : List ℕ} → Read s n e f r n′ e′ f′
+pub read-unique : {s n e f : List ℕ} {r q : TextReading} {n′ e′ f′ n″ e″ f″ : List ℕ} → Read s n e f r n′ e′ f′
     → Read s n e f q n″ e″ f″
     → (r ≡ q) × (n′ ≡ n″) × (e′ ≡ e″) × (f′ ≡ f″)
 read-unique {s} (wrong-text x p) (wrong-text y q) =
@@ -97,7 +98,7 @@ read-unique {n = n} {e} {f} (took a g) (took b h) =
     )
 
 pub read-exists : (s n e f : List ℕ)
-    → (r : Reading) × (n′ : List ℕ) × (e′ : List ℕ) × (f′ : List ℕ) × Read s n e f r n′ e′ f′
+    → (r : TextReading) × (n′ : List ℕ) × (e′ : List ℕ) × (f′ : List ℕ) × Read s n e f r n′ e′ f′
 read-exists s n e f =
     ⊎-elim
     (λ (t, a).
@@ -107,6 +108,13 @@ read-exists s n e f =
     (short-or-fits t n e f))
     (λ (p, none, w). (_, _, _, _, wrong-text none w))
     (accepted-or-not s)
+
+-- where a caller finds what was read: the tables that lie at the front of the lent ones, by the start and the counts
+-- of the answer
+abbrev pub fronts : TextReading → List ℕ → List ℕ → List ℕ → Tables
+fronts r n e f =
+    lent (r .start) (take (r .nodes * nodeWidth) n) (r .nodes) (take (r .edges * edgeWidth) e) (r .edges)
+    (take (r .refs * refWidth) f) (r .refs)
 
 -- the counted rows at the front of a table that the rows of x fill
 counted-front : (w : ℕ) (x : Table) (old : List ℕ) → Whole w x
@@ -126,20 +134,20 @@ fronts-are t n e f o =
     )
 
 module _ {s n e f : List ℕ} where
-  pub read-frame : {r : Reading} {n′ e′ f′ : List ℕ} → Read s n e f r n′ e′ f′ → refuses (r .answer) ≡ true
+  pub read-frame : {r : TextReading} {n′ e′ f′ : List ℕ} → Read s n e f r n′ e′ f′ → refuses (r .answer) ≡ true
       → (r ≡ readingOf (r .answer) nothing) × (n′ ≡ n) × (e′ ≡ e) × (f′ ≡ f)
   read-frame (wrong-text x p) c = (refl, refl, refl, refl)
   read-frame (no-room a k) c = (refl, refl, refl, refl)
   read-frame (took a h) c = absurd (false≢true c)
 
   -- what lies at the fronts is what the text is the text of
-  pub read-fronts : {r : Reading} {n′ e′ f′ : List ℕ} → Read s n e f r n′ e′ f′ → refuses (r .answer) ≡ false
+  pub read-fronts : {r : TextReading} {n′ e′ f′ : List ℕ} → Read s n e f r n′ e′ f′ → refuses (r .answer) ≡ false
       → Accepted s (fronts r n′ e′ f′)
   read-fronts (wrong-text x p) c = absurd (false≢true (sym c))
   read-fronts (no-room a k) c = absurd (false≢true (sym c))
   read-fronts (took {t} a h) c = subst (Accepted s) (sym (fronts-are t n e f (a .lendable))) a
 
-  pub read-accepted : {t : Tables} {r : Reading} {n′ e′ f′ : List ℕ} → Accepted s t → Fits t n e f
+  pub read-accepted : {t : Tables} {r : TextReading} {n′ e′ f′ : List ℕ} → Accepted s t → Fits t n e f
       → Read s n e f r n′ e′ f′
       → (r ≡ readingOf passed t)
       × (n′ ≡ front (t .nodes .numbers) n)
@@ -149,15 +157,9 @@ module _ {s n e f : List ℕ} where
 
 -- ---- both
 
--- a table of the right size is one that the text holds, and the other way round
+-- a table of the right size is one that a text holds
 sized : {w lo hi : ℕ} {x : Table} → Small (x .numbers) → SizeRule w lo hi x → LendableTable w lo hi x
 sized s r = record { small = s; whole = r .whole; least = r .least; most = r .most }
-
-size-of : {w lo hi : ℕ} {x : Table} → LendableTable w lo hi x → SizeRule w lo hi x
-size-of o = record { whole = o .whole; least = o .least; most = o .most }
-
-pub sizes-of : {t : Tables} → Lendable t → Sizes t
-sizes-of o = record { nodes = size-of (o .nodes); edges = size-of (o .edges); refs = size-of (o .refs) }
 
 -- [demand 2] "tables written as text read back the same": the bytes that write text leaves are the text of these
 -- tables, and read text, given room, leaves them
@@ -178,7 +180,7 @@ module _ {t : Tables} {out : List ℕ} {a : Answer} {out′ : List ℕ} (w : Wri
         text = ap (take (length (textOf t))) held ∙ take-append-seam (textOf t) (drop (length (textOf t)) out);
       }
 
-  pub read-written : {n e f : List ℕ} {r : Reading} {n′ e′ f′ : List ℕ}
+  pub read-written : {n e f : List ℕ} {r : TextReading} {n′ e′ f′ : List ℕ}
       → Read (take (length (textOf t)) out′) n e f r n′ e′ f′
       → Fits t n e f
       → (r ≡ readingOf passed t)
@@ -195,7 +197,7 @@ write-accepted {s} {t} {out} a h =
 
 -- [demand 2] "accepted text written again is the same text": what read text left, write text, given room, writes as
 -- that text
-module _ {s n e f : List ℕ} {r : Reading} {n′ e′ f′ out : List ℕ} {a : Answer} {out′ : List ℕ}
+module _ {s n e f : List ℕ} {r : TextReading} {n′ e′ f′ out : List ℕ} {a : Answer} {out′ : List ℕ}
     (x : Read s n e f r n′ e′ f′) (c : refuses (r .answer) ≡ false) (w : Written (fronts r n′ e′ f′) out a out′) where
   pub write-read : length s ≤ length out → (a ≡ Done 0 (length s)) × (out′ ≡ front s out)
   write-read h = write-unique w (write-accepted (read-fronts x c) h)

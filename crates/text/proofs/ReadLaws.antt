@@ -15,49 +15,49 @@ use Rattle.ground.specs.Lists.{front}
 use Rattle.ground.proofs.ListLaws.{stands-within, sets-front}
 use Rattle.ground.proofs.TestLaws.{by-lt}
 use Rattle.lines.specs.declared.read.Ended.the-variants.{At, Wrong}
-use Rattle.lines.specs.Reads.{Got, got, wrong, linesAt, endOf, isGot, gotOf, numbersOf, placeOf}
+use Rattle.lines.specs.Reads.{Got, got, wrong, linesAt, endedOf, isGot, gotOf, numbersOf, placeOf}
 use Rattle.lines.specs.Plans.{planAt}
 use Rattle.lines.specs.Fills.{FillableLines, Filled}
 use Rattle.lines.proofs.GotLaws.{got-place, got-is, got-of, is-got, at-wrong, got-then}
 use Rattle.lines.proofs.LineLaws.{lines-is}
 use Rattle.lines.proofs.PlanLaws.{plan-is}
 use Rattle.text.specs.declared.forms.Counts.{Counts}
-use Rattle.text.specs.declared.read.Reading.{Reading}
-use Rattle.text.specs.Text.{counted, countsOf, nodeKey, edgeKey, refKey, nodeForm, edgeForm, refForm}
-use Rattle.text.specs.Reads.{headPlan, rowsPlan, whole, readText, roomSays, Announced, Held}
+use Rattle.text.specs.declared.read.TextReading.{TextReading}
+use Rattle.text.specs.Forms.{counted, countsOf, nodeKey, edgeKey, refKey, nodeForm, edgeForm, refForm}
+use Rattle.text.specs.Reads.{headPlan, rowsPlan, whole, readText, shortSays, Announced, Held}
 use Rattle.text.specs.Answers.{Accepted, nothing, readingOf, Fits, TooShort, nodes-short, edges-short, refs-short}
 use Rattle.text.specs.Answers.{Read, wrong-text, no-room, took}
 use Rattle.text.proofs.RoundTrip.{refused, not-of-form, write-of-read}
-use Rattle.text.proofs.ScanLaws.{rows, read-counted, scan-all}
+use Rattle.text.proofs.ScanLaws.{rowsAt, read-counted, scan-all}
 
 -- ---- the second pass, where all rows are right
 
 module _ (s : List ℕ) (c : Counts) (at : ℕ) where
-  abbrev pub nodeLines : Got (List ℕ)
-  nodeLines = linesAt nodeKey nodeForm s (c .nodes) at
+  abbrev pub nodesGot : Got (List ℕ)
+  nodesGot = linesAt nodeKey nodeForm s (c .nodes) at
 
-  abbrev pub edgeLines : Got (List ℕ)
-  edgeLines = linesAt edgeKey edgeForm s (c .edges) (placeOf nodeLines)
+  abbrev pub edgesGot : Got (List ℕ)
+  edgesGot = linesAt edgeKey edgeForm s (c .edges) (placeOf nodesGot)
 
-  abbrev pub refLines : Got (List ℕ)
-  refLines = linesAt refKey refForm s (c .refs) (placeOf edgeLines)
+  abbrev pub refsGot : Got (List ℕ)
+  refsGot = linesAt refKey refForm s (c .refs) (placeOf edgesGot)
 
   pub record RowsRight (t : Tables) : Type 0 where
-    pub nodes : isGot nodeLines ≡ true
-    pub edges : isGot edgeLines ≡ true
-    pub refs : isGot refLines ≡ true
-    pub nodes-end : placeOf nodeLines ≤ length s
-    pub edges-end : placeOf edgeLines ≤ length s
-    pub all : counted c (numbersOf nodeLines) (numbersOf edgeLines) (numbersOf refLines) ≡ t
+    pub nodes : isGot nodesGot ≡ true
+    pub edges : isGot edgesGot ≡ true
+    pub refs : isGot refsGot ≡ true
+    pub nodes-end : placeOf nodesGot ≤ length s
+    pub edges-end : placeOf edgesGot ≤ length s
+    pub all : counted c (numbersOf nodesGot) (numbersOf edgesGot) (numbersOf refsGot) ≡ t
 
-  pub rows-right : (t : Tables) (n : ℕ) → at ≤ length s → rows s c at ≡ got t n → RowsRight t
+  pub rows-right : (t : Tables) (n : ℕ) → at ≤ length s → rowsAt s c at ≡ got t n → RowsRight t
   unfolding rowsPlan planAt
   rows-right t n h e =
-      let (ns, i, a, e₁) = got-then _ nodeLines t n e in
+      let (ns, i, a, e₁) = got-then _ nodesGot t n e in
       let (es, j, b₀, e₂) = got-then _ (linesAt edgeKey edgeForm s (c .edges) i) t n e₁ in
-      let b : edgeLines ≡ got es j = ap (linesAt edgeKey edgeForm s (c .edges)) (got-place _ a) ∙ b₀ in
+      let b : edgesGot ≡ got es j = ap (linesAt edgeKey edgeForm s (c .edges)) (got-place _ a) ∙ b₀ in
       let (rs, k, d₀, e₃) = got-then _ (linesAt refKey refForm s (c .refs) j) t n e₂ in
-      let d : refLines ≡ got rs k = ap (linesAt refKey refForm s (c .refs)) (got-place _ b) ∙ d₀ in
+      let d : refsGot ≡ got rs k = ap (linesAt refKey refForm s (c .refs)) (got-place _ b) ∙ d₀ in
       let h₁ : i ≤ length s = stands-within h (lines-is nodeKey nodeForm s (c .nodes) at ns i a .stands) in
       let h₂ : j ≤ length s = stands-within h₁ (lines-is edgeKey edgeForm s (c .edges) i es j b₀ .stands) in
       let q : counted c ns es rs ≡ t = cc in
@@ -73,21 +73,21 @@ module _ (s : List ℕ) (c : Counts) (at : ℕ) where
 -- each table is filled from where the one before it ends
 module _ {s : List ℕ} {at : ℕ} {c : Counts} {n e f : List ℕ} (x : Announced s at c n e f) where
   abbrev told : Tables
-  told = gotOf nothing (rows s c at)
+  told = gotOf nothing (rowsAt s c at)
 
   right : RowsRight s c at told
-  right = rows-right s c at told (placeOf (rows s c at)) (x .reached) (is-got nothing (rows s c at) (x .good))
+  right = rows-right s c at told (placeOf (rowsAt s c at)) (x .reached) (is-got nothing (rowsAt s c at) (x .good))
 
   pub fill-nodes : FillableLines nodeKey nodeForm s (c .nodes) at n
   fill-nodes = record { reached = x .reached; room = x .nodes; good = right .nodes; shown = refl }
 
-  module _ {n′ : List ℕ} {i : ℕ} (a : Filled (nodeLines s c at) n 0 n′ i) where
+  module _ {n′ : List ℕ} {i : ℕ} (a : Filled (nodesGot s c at) n 0 n′ i) where
     pub fill-edges : FillableLines edgeKey edgeForm s (c .edges) i e
     fill-edges =
         rw (a .after) (record { reached = right .nodes-end; room = x .edges; good = right .edges; shown = refl })
 
     module _ {e′ : List ℕ} {j : ℕ} (b : Filled (linesAt edgeKey edgeForm s (c .edges) i) e 0 e′ j) where
-      abbrev then-edges : Filled (edgeLines s c at) e 0 e′ j
+      abbrev then-edges : Filled (edgesGot s c at) e 0 e′ j
       then-edges = rw (a .after) at b
 
       pub fill-refs : FillableLines refKey refForm s (c .refs) j f
@@ -98,16 +98,16 @@ module _ {s : List ℕ} {at : ℕ} {c : Counts} {n e f : List ℕ} (x : Announce
       pub rows-held : {f′ : List ℕ} {k : ℕ} → Filled (linesAt refKey refForm s (c .refs) j) f 0 f′ k
           → Held told n e f n′ e′ f′
       rows-held d =
-          let d′ : Filled (refLines s c at) f 0 _ _ = rw (then-edges .after) at d in
+          let d′ : Filled (refsGot s c at) f 0 _ _ = rw (then-edges .after) at d in
           rw (sym (right .all)) (record { nodes = a .held; edges = then-edges .held; refs = d′ .held })
 
 -- ---- what the scan of the rows says of the text
 
 module _ (s : List ℕ) (c : Counts) (at : ℕ) (head : planAt headPlan s 0 ≡ got c at) where
   pub head-within : at ≤ length s
-  head-within = let (ls, prints, st) = plan-is headPlan s 0 c at head in stands-within (omega arith) st
+  head-within = let (ls, laid, st) = plan-is headPlan s 0 c at head in stands-within (omega arith) st
 
-  pub text-wrong : (p : ℕ) → endOf (whole s (rows s c at)) ≡ Wrong p → readText s ≡ wrong p
+  pub text-wrong : (p : ℕ) → endedOf (whole s (rowsAt s c at)) ≡ Wrong p → readText s ≡ wrong p
   text-wrong p e = read-counted s c at head ∙ at-wrong _ p e
 
   -- the tables of the text, with the counts that its first lines tell
@@ -115,12 +115,12 @@ module _ (s : List ℕ) (c : Counts) (at : ℕ) (head : planAt headPlan s 0 ≡ 
     pub tables : Tables
     pub accepted : Accepted s tables
     pub place : ℕ
-    pub got-rows : rows s c at ≡ got tables place
+    pub got-rows : rowsAt s c at ≡ got tables place
     pub counts : countsOf tables ≡ c
 
-  pub text-right : (n : ℕ) → endOf (whole s (rows s c at)) ≡ At n → TextRight
+  pub text-right : (n : ℕ) → endedOf (whole s (rowsAt s c at)) ≡ At n → TextRight
   text-right n e =
-      let (t, r, w) = scan-all s (rows s c at) n e in
+      let (t, r, w) = scan-all s (rowsAt s c at) n e in
       record {
         tables = t;
         accepted = write-of-read s t n (read-counted s c at head ∙ w);
@@ -134,17 +134,17 @@ module _ (s : List ℕ) (c : Counts) (at : ℕ) (head : planAt headPlan s 0 ≡ 
 module _ (t : Tables) (n e f : List ℕ) where
   abbrev pub judged : Answer
   judged =
-      roomSays (length (t .nodes .numbers)) (length (t .edges .numbers)) (length (t .refs .numbers)) (length n)
+      shortSays (length (t .nodes .numbers)) (length (t .edges .numbers)) (length (t .refs .numbers)) (length n)
       (length e) (length f)
 
   pub judged-short : {k : ℕ} → TooShort t n e f k → judged ≡ Room 0 k
-  unfolding roomSays
+  unfolding shortSays
   judged-short (nodes-short h) = rw (lt-ltb _ _ h)
   judged-short (edges-short a h) = rw (le-ltb _ _ a, lt-ltb _ _ h)
   judged-short (refs-short a b h) = rw (le-ltb _ _ a, le-ltb _ _ b, lt-ltb _ _ h)
 
   pub judged-fits : Fits t n e f → judged ≡ passed
-  unfolding roomSays
+  unfolding shortSays
   judged-fits h = rw (le-ltb _ _ (h .nodes), le-ltb _ _ (h .edges), le-ltb _ _ (h .refs))
 
   pub short-or-fits : ((k : ℕ) × TooShort t n e f k) ⊎ Fits t n e f
@@ -161,15 +161,15 @@ module _ (t : Tables) (n e f : List ℕ) where
 
 -- ---- what is left, case by case
 
-pub read-wrong : {s n e f : List ℕ} {r : Reading} {p : ℕ} → readText s ≡ wrong p → r ≡ readingOf (Text p) nothing
+pub read-wrong : {s n e f : List ℕ} {r : TextReading} {p : ℕ} → readText s ≡ wrong p → r ≡ readingOf (Text p) nothing
     → Read s n e f r n e f
 read-wrong {s} {n} {e} {f} {p = p} w g =
-    subst⁻¹ (λ (q : Reading). Read s n e f q n e f) g (wrong-text (not-of-form s p w) (refused s p w))
+    subst⁻¹ (λ (q : TextReading). Read s n e f q n e f) g (wrong-text (not-of-form s p w) (refused s p w))
 
 -- the room that the counts ask for
 abbrev pub asked : Counts → List ℕ → List ℕ → List ℕ → Answer
 asked c n e f =
-    roomSays (c .nodes * nodeWidth) (c .edges * edgeWidth) (c .refs * refWidth) (length n) (length e) (length f)
+    shortSays (c .nodes * nodeWidth) (c .edges * edgeWidth) (c .refs * refWidth) (length n) (length e) (length f)
 
 module _ {s : List ℕ} {c : Counts} {at : ℕ} {head : planAt headPlan s 0 ≡ got c at} (x : TextRight s c at head) where
   -- it is that of the tables
@@ -182,7 +182,7 @@ module _ {s : List ℕ} {c : Counts} {at : ℕ} {head : planAt headPlan s 0 ≡ 
   room-fits : {n e f : List ℕ} {room : Answer} → room ≡ asked c n e f → refuses room ≡ false → Fits (x .tables) n e f
   room-fits {n} {e} {f} says w = room-there (x .tables) n e f (ap refuses (sym (room-is n e f says)) ∙ w)
 
-  pub room-short : {n e f : List ℕ} {room : Answer} {r : Reading} → room ≡ asked c n e f → refuses room ≡ true
+  pub room-short : {n e f : List ℕ} {room : Answer} {r : TextReading} → room ≡ asked c n e f → refuses room ≡ true
       → r ≡ readingOf room nothing → Read s n e f r n e f
   room-short {n} {e} {f} says w g =
       let t = x .tables in
@@ -207,7 +207,7 @@ module _ {s : List ℕ} {c : Counts} {at : ℕ} {head : planAt headPlan s 0 ≡ 
 
   -- the counts that the first lines tell are those of the tables
   pub room-taken : {n e f n′ e′ f′ : List ℕ} {room : Answer} → room ≡ asked c n e f → refuses room ≡ false
-      → Held (gotOf nothing (rows s c at)) n e f n′ e′ f′
+      → Held (gotOf nothing (rowsAt s c at)) n e f n′ e′ f′
       → Read s n e f
       (record { answer = room; start = c .start; nodes = c .nodes; edges = c .edges; refs = c .refs }) n′ e′ f′
   room-taken {n} {e} {f} says w h₀ =

@@ -10,22 +10,22 @@ use lib.Dec.{eqb}
 use lib.ListN.{length, take}
 use lib.Seq.{take-length}
 use borrow.Author.Tests.{eq-eqb, eqb-true}
-use Rattle.ground.specs.Lists.{Stands}
+use Rattle.ground.specs.Lists.{Stands, joined}
 use Rattle.ground.proofs.TestLaws.{by-test}
 use Rattle.ground.proofs.ListLaws.{stands-whole}
 use Rattle.tables.specs.Tables.{Now, nodeWidth, edgeWidth, refWidth, Tables}
 use Rattle.tables.specs.Rules.{leastNodes, mostNodes, mostEdges, mostRefs}
-use Rattle.lines.specs.Lines.{oneForm, rowForm, joined}
+use Rattle.lines.specs.Lines.{oneForm, rowForm}
 use Rattle.lines.specs.Reads.{Got, got, wrong, andThen, placeOf}
-use Rattle.lines.specs.Plans.{follow, planAt}
+use Rattle.lines.specs.Plans.{planThen, planAt}
 use Rattle.lines.proofs.GotLaws.{by-got, got-not-wrong, got-place, wrong-place, then-got, got-then}
 use Rattle.lines.proofs.PlaceLaws.{FormOk}
 use Rattle.lines.proofs.PlanLaws.{plan-of, plan-is, plan-past, FormsOk, plan-before}
-use Rattle.text.specs.Text.{Lendable, edition, textLines, textOf}
+use Rattle.text.specs.Text.{Lendable, textLines, textOf}
+use Rattle.text.specs.Forms.{edition}
 use Rattle.text.specs.Reads.{headPlan, rowsPlan, textPlan, whole, readText}
-use Rattle.text.specs.Place.{firstLines, FirstWrong}
-use Rattle.text.specs.Answers.{Accepted, NotOfForm}
-use Rattle.text.proofs.TextLaws.{text-prints, prints-text}
+use Rattle.text.specs.Answers.{firstLines, FirstWrong, Accepted, NotOfForm}
+use Rattle.text.proofs.TextLaws.{text-laid, laid-text}
 
 -- ---- the end of the text
 
@@ -55,7 +55,7 @@ row-ok : (w : ℕ) (e : Bool) → FormOk (rowForm w e)
 row-ok w e = record { bounds = omega arith; small = omega arith }
 
 forms-ok : FormsOk textPlan
-unfolding follow headPlan rowsPlan
+unfolding planThen headPlan rowsPlan
 forms-ok = (
   one-ok edition edition (omega arith) (omega arith),
   λ e. (
@@ -79,8 +79,8 @@ Reaches s p = (t : Tables) × (j : ℕ) × Lendable t × Stands s 0 (firstLines 
 -- all lines of some tables stand
 reaches-all : (s : List ℕ) (t : Tables) (n : ℕ) → planAt textPlan s 0 ≡ got t n → Reaches s n
 reaches-all s t n e =
-    let (ls, prints, st) = plan-is textPlan s 0 t n e in
-    let (q, o) = prints-text t ls prints in
+    let (ls, laid, st) = plan-is textPlan s 0 t n e in
+    let (q, o) = laid-text t ls laid in
     let all : take (length ls) (textLines t) ≡ ls = ap (take (length ls)) (sym q) ∙ take-length ls in
     (t, length ls, o, subst (λ (x : List (List ℕ)). Stands s 0 (joined x) n) (sym all) st)
 
@@ -88,7 +88,7 @@ reaches-all s t n e =
 reaches-some : (s : List ℕ) (p : ℕ) → planAt textPlan s 0 ≡ wrong p → Reaches s p
 reaches-some s p e =
     let r = plan-before textPlan s 0 p forms-ok e in
-    let (q, o) = prints-text (r .told) (r .all) (r .prints) in
+    let (q, o) = laid-text (r .told) (r .all) (r .laid) in
     (r .told, r .count, o, subst (λ (ls : List (List ℕ)). Stands s 0 (joined (take (r .count) ls)) p) q (r .stands))
 
 reaches : (s : List ℕ) (p : ℕ) → readText s ≡ wrong p → Reaches s p
@@ -105,7 +105,7 @@ unfolding readText
 goes-past s p e t j n o st =
     omega (
       arith,
-      plan-past textPlan t (textLines t) s 0 j n (text-prints t o) st,
+      plan-past textPlan t (textLines t) s 0 j n (text-laid t o) st,
       sym (whole-place s (planAt textPlan s 0)) ∙ wrong-place _ e,
     )
 
@@ -115,7 +115,7 @@ goes-past s p e t j n o st =
 pub read-of-write : (t : Tables) → Lendable t → readText (textOf t) ≡ got t (length (textOf t))
 unfolding readText
 read-of-write t o =
-    let all = plan-of textPlan t (textLines t) (textOf t) 0 [] (text-prints t o) (sym (append-nil (textOf t))) in
+    let all = plan-of textPlan t (textLines t) (textOf t) 0 [] (text-laid t o) (sym (append-nil (textOf t))) in
     whole-end (textOf t) _ t (length (textOf t)) (all ∙ ap (got t) (omega arith)) refl
 
 -- [demand 2] "accepted text written again is the same text"
@@ -123,8 +123,8 @@ pub write-of-read : (s : List ℕ) (t : Tables) (n : ℕ) → readText s ≡ got
 unfolding readText
 write-of-read s t n e =
     let (r, end) = whole-got s (planAt textPlan s 0) t n e in
-    let (ls, prints, st) = plan-is textPlan s 0 t n r in
-    let (q, o) = prints-text t ls prints in
+    let (ls, laid, st) = plan-is textPlan s 0 t n r in
+    let (q, o) = laid-text t ls laid in
     let all = subst (λ (x : List (List ℕ)). Stands s 0 (joined x) n) q st in
     record { lendable = o; text = stands-whole s (textOf t) n all end }
 

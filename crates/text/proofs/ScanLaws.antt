@@ -12,15 +12,15 @@ use Rattle.decimals.specs.declared.Num.the-variants.{Is, Missing}
 use Rattle.lines.specs.declared.form.Form.{Form}
 use Rattle.lines.specs.declared.read.Ended.{Ended}
 use Rattle.lines.specs.declared.read.Ended.the-variants.{At}
-use Rattle.lines.specs.Reads.{Got, got, wrong, andThen, linesAt, endOf, thenEnded, oneOf, thenNum}
+use Rattle.lines.specs.Reads.{Got, got, wrong, andThen, linesAt, endedOf, thenEnded, oneOf, thenNum}
 use Rattle.lines.specs.Plans.{planAt}
 use Rattle.lines.proofs.GotLaws.{by-got, at-got, then-got, then-wrong}
-use Rattle.lines.proofs.PlanLaws.{follow-at}
+use Rattle.lines.proofs.PlanLaws.{planThen-at}
 use Rattle.text.specs.declared.forms.Counts.{Counts}
 use Rattle.text.specs.declared.read.Head.{Head}
 use Rattle.text.specs.declared.read.Head.the-variants.{Counted, Misplaced}
-use Rattle.text.specs.Text.{editionKey, startKey, nodesKey, edgesKey, refsKey, nodeKey, edgeKey, refKey, nodeForm}
-use Rattle.text.specs.Text.{edgeForm, refForm}
+use Rattle.text.specs.Forms.{editionKey, startKey, nodesKey, edgesKey, refsKey, nodeKey, edgeKey, refKey}
+use Rattle.text.specs.Forms.{nodeForm, edgeForm, refForm}
 use Rattle.text.specs.Reads.{editionForm, startForm, nodesForm, edgesForm, refsForm, headPlan, rowsPlan, whole}
 use Rattle.text.specs.Reads.{endAt, readText, valueOf, headOf}
 use Rattle.text.proofs.RoundTrip.{whole-got}
@@ -93,33 +93,33 @@ counted-head (wrong q) c n e = let z : _≡_ {A = ℕ} 0 1 = cc in absurd (omega
 
 -- ---- the whole text
 
-abbrev pub rows : List ℕ → Counts → ℕ → Got Tables
-rows s c at = planAt (rowsPlan c) s at
+abbrev pub rowsAt : List ℕ → Counts → ℕ → Got Tables
+rowsAt s c at = planAt (rowsPlan c) s at
 
 -- after its first lines, the text is its rows
 pub read-counted : (s : List ℕ) (c : Counts) (at : ℕ) → planAt headPlan s 0 ≡ got c at
-    → readText s ≡ whole s (rows s c at)
+    → readText s ≡ whole s (rowsAt s c at)
 unfolding readText
-read-counted s c at e = ap (whole s) (follow-at headPlan rowsPlan s 0 ∙ then-got _ _ e)
+read-counted s c at e = ap (whole s) (planThen-at headPlan rowsPlan s 0 ∙ then-got _ _ e)
 
 pub read-misplaced : (s : List ℕ) (p : ℕ) → planAt headPlan s 0 ≡ wrong p → readText s ≡ wrong p
 unfolding readText
-read-misplaced s p e = then-wrong _ _ (follow-at headPlan rowsPlan s 0 ∙ then-wrong _ _ e)
+read-misplaced s p e = then-wrong _ _ (planThen-at headPlan rowsPlan s 0 ∙ then-wrong _ _ e)
 
 -- ---- the rows, by a reader that keeps no numbers
 
 module _ (s : List ℕ) (c : Counts) (at : ℕ) where
   abbrev pub afterNodes : Ended
-  afterNodes = endOf (linesAt nodeKey nodeForm s (c .nodes) at)
+  afterNodes = endedOf (linesAt nodeKey nodeForm s (c .nodes) at)
 
   abbrev pub thenEdges : Ended → Ended
-  thenEdges x = thenEnded x (λ i. endOf (linesAt edgeKey edgeForm s (c .edges) i))
+  thenEdges x = thenEnded x (λ i. endedOf (linesAt edgeKey edgeForm s (c .edges) i))
 
   abbrev pub thenRefs : Ended → Ended
-  thenRefs x = thenEnded x (λ i. endOf (linesAt refKey refForm s (c .refs) i))
+  thenRefs x = thenEnded x (λ i. endedOf (linesAt refKey refForm s (c .refs) i))
 
-  scan-is : thenEnded (thenRefs (thenEdges afterNodes)) (endAt s) ≡ endOf (whole s (rows s c at))
-  unfolding rowsPlan planAt andThen endOf thenEnded
+  scan-is : thenEnded (thenRefs (thenEdges afterNodes)) (endAt s) ≡ endedOf (whole s (rowsAt s c at))
+  unfolding rowsPlan planAt andThen endedOf thenEnded
   scan-is =
       by-got (linesAt nodeKey nodeForm s (c .nodes) at)
       (λ ns i e. rw e (by-got (linesAt edgeKey edgeForm s (c .edges) i)
@@ -130,10 +130,10 @@ module _ (s : List ℕ) (c : Counts) (at : ℕ) where
       (λ p e. rw e)
 
   pub scan-rows : {x y z r : Ended} → x ≡ afterNodes → y ≡ thenEdges x → z ≡ thenRefs y → r ≡ thenEnded z (endAt s)
-      → r ≡ endOf (whole s (rows s c at))
+      → r ≡ endedOf (whole s (rowsAt s c at))
   scan-rows a b d e = e ∙ rw (d, b, a) scan-is
 
-pub scan-all : {A : Type 0} (s : List ℕ) (r : Got A) (n : ℕ) → endOf (whole s r) ≡ At n
+pub scan-all : {A : Type 0} (s : List ℕ) (r : Got A) (n : ℕ) → endedOf (whole s r) ≡ At n
     → (a : A) × (r ≡ got a n) × (whole s r ≡ got a n)
 scan-all s r n e =
     let (a, g) = at-got (whole s r) n e in

@@ -6,18 +6,21 @@ use Prim.Native.Nat.{ℕ, _+_, _≤_}
 use native.Mathlib.Omega.{arith}
 use lib.ListN.{length, length-append}
 use Rattle.tables.specs.Tables.{Table, Tables}
+use Rattle.tables.specs.Rules.{Sizes}
 use Rattle.lines.specs.declared.form.Form.{Form}
-use Rattle.lines.specs.Lines.{joined, linesText}
+use Rattle.lines.specs.Lines.{linesText}
 use Rattle.lines.specs.Reads.{wrong}
 use Rattle.lines.proofs.WriteLaws.{one-short, lines-short}
 use Rattle.lines.proofs.PlanLaws.{joined-append, joined-take}
 use Rattle.text.specs.declared.forms.Counts.{Counts}
-use Rattle.text.specs.Text.{Lendable, edition, editionKey, startKey, nodesKey, edgesKey, refsKey, nodeKey}
-use Rattle.text.specs.Text.{edgeKey, refKey, nodeForm, edgeForm, refForm, countsOf, headLines, rowLines}
-use Rattle.text.specs.Text.{textLines, textOf}
+use Rattle.text.specs.Text.{Lendable, textLines, textOf}
+use Rattle.text.specs.Forms.{edition, editionKey, startKey, nodesKey, edgesKey, refsKey, nodeKey, edgeKey, refKey}
+use Rattle.text.specs.Forms.{nodeForm, edgeForm, refForm, countsOf, headLines, rowLines}
 use Rattle.text.specs.Reads.{readText}
 use Rattle.text.specs.Sizes.{headBytes, rowBytes, mostText}
+use Rattle.text.proofs.TieLaws.{text-plan, sizes-of}
 use Rattle.text.proofs.RoundTrip.{refused}
+use Rattle.ground.specs.Lists.{joined}
 
 -- ---- in parts
 
@@ -37,14 +40,14 @@ rows-text t = simp joined-append
 pub rows-length : (t : Tables) → length (joined (rowLines t)) ≡ rowBytes t
 rows-length t = ap length (rows-text t) ∙ simp length-append (omega arith)
 
-pub text-parts : (t : Tables) → textOf t ≡ joined (headLines (countsOf t)) ++ joined (rowLines t)
-text-parts t = joined-append (headLines (countsOf t)) (rowLines t)
+pub text-parts : (t : Tables) → Sizes t → textOf t ≡ joined (headLines (countsOf t)) ++ joined (rowLines t)
+text-parts t s = ap joined (text-plan t s) ∙ joined-append (headLines (countsOf t)) (rowLines t)
 
-pub text-length : (t : Tables) → length (textOf t) ≡ headBytes (countsOf t) + rowBytes t
-text-length t =
+pub text-length : (t : Tables) → Sizes t → length (textOf t) ≡ headBytes (countsOf t) + rowBytes t
+text-length t s =
     omega (
       arith,
-      ap length (text-parts t) ∙ length-append (joined (headLines (countsOf t))) (joined (rowLines t)),
+      ap length (text-parts t s) ∙ length-append (joined (headLines (countsOf t))) (joined (rowLines t)),
       head-length (countsOf t),
       rows-length t,
     )
@@ -58,7 +61,7 @@ text-short t o =
     let r = t .refs .count in
     omega (
       arith,
-      text-length t,
+      text-length t (sizes-of o),
       one-short editionKey edition (omega arith) (omega arith),
       one-short startKey (t .start) (omega arith) (o .start),
       one-short nodesKey n (omega arith) (omega (arith, o .nodes .most)),

@@ -1,8 +1,8 @@
--- The lines that the plan of the text prints are the lines of the text of tables within the sizes (`text-prints`,
--- `prints-text`). Assumes nothing.
+-- The lines that the plan of the text lays out are the lines of the text of tables within the sizes (`text-laid`,
+-- `laid-text`). Assumes nothing.
 use mathlib.Core.Bool.{Bool, true, false}
 use mathlib.Core.List.{List, [], _∷_, _++_, append-nil}
-use mathlib.Core.Path.{_≡_, refl, sym, ap, subst, _∙_}
+use mathlib.Core.Path.{_≡_, refl, sym, ap, subst, subst⁻¹, _∙_}
 use Prim.Native.Nat.{ℕ, zero, suc, _+_, _*_, _≤_}
 use native.Mathlib.Nat.{zero-mul, suc-mul}
 use native.Mathlib.Omega.{arith}
@@ -12,12 +12,13 @@ use Rattle.tables.specs.Tables.{Now, nodeWidth, edgeWidth, refWidth, Table, Tab
 use Rattle.tables.specs.Rules.{leastNodes, mostNodes, mostEdges, mostRefs, Whole}
 use Rattle.lines.specs.Lines.{widthOf, oneForm, rowForm, isEnd, numbersText, oneLine, linesOf, NumberOk, NumbersOk}
 use Rattle.lines.specs.Lines.{LinesOk}
-use Rattle.lines.specs.Plans.{follow, Prints}
+use Rattle.lines.specs.Plans.{planThen, LaysOut}
 use Rattle.text.specs.declared.forms.Counts.{Counts}
-use Rattle.text.specs.Text.{Small, LendableTable, Lendable, edition, editionKey, startKey, nodesKey, edgesKey}
-use Rattle.text.specs.Text.{refsKey, nodeKey, edgeKey, refKey, nodeForm, edgeForm, refForm, countsOf, rowLines}
-use Rattle.text.specs.Text.{textLines}
+use Rattle.text.specs.Text.{Small, LendableTable, Lendable, textLines}
+use Rattle.text.specs.Forms.{edition, editionKey, startKey, nodesKey, edgesKey, refsKey, nodeKey, edgeKey, refKey}
+use Rattle.text.specs.Forms.{nodeForm, edgeForm, refForm, countsOf, rowLines, planLines}
 use Rattle.text.specs.Reads.{only, headPlan, rowsPlan, textPlan}
+use Rattle.text.proofs.TieLaws.{text-plan, sizes-of}
 
 -- ---- a line of one number
 
@@ -81,9 +82,9 @@ table-ok {w} {x = x} e o = rows-ok w e (x .count) (x .numbers) (omega (arith, o 
 
 -- ---- the lines of the text
 
-rows-print : (t : Tables) → Lendable t → Prints (rowsPlan (countsOf t)) t (rowLines t)
+rows-laid : (t : Tables) → Lendable t → LaysOut (rowsPlan (countsOf t)) t (rowLines t)
 unfolding rowsPlan
-rows-print t o =
+rows-laid t o =
     let ok₀ = table-ok false (o .nodes) in
     let ok₁ = table-ok true (o .edges) in
     let ok₂ = table-ok true (o .refs) in (
@@ -105,9 +106,9 @@ rows-print t o =
 one-ok : {least most : ℕ} (v : ℕ) → least ≤ v → v ≤ most → LinesOk (oneForm least most) 1 (v ∷ [])
 one-ok v l h = (record { shown = ((l, h), tt); hidden = refl }, tt)
 
-pub text-prints : (t : Tables) → Lendable t → Prints textPlan t (textLines t)
-unfolding follow headPlan linesOf numbersText
-text-prints t o =
+plan-laid : (t : Tables) → Lendable t → LaysOut textPlan t (planLines t)
+unfolding planThen headPlan linesOf numbersText
+plan-laid t o =
     let n = t .nodes .count in
     let m = t .edges .count in
     let r = t .refs .count in (
@@ -130,7 +131,7 @@ text-prints t o =
             _,
             one-ok m (o .edges .least) (o .edges .most),
             refl,
-            (r ∷ [], _, one-ok r (o .refs .least) (o .refs .most), refl, rows-print t o, refl),
+            (r ∷ [], _, one-ok r (o .refs .least) (o .refs .most), refl, rows-laid t o, refl),
             refl,
           ),
           refl,
@@ -160,7 +161,7 @@ record RowsAre (c : Counts) (t : Tables) (ls : List (List ℕ)) : Type 0 where
   refs-whole : Whole refWidth (t .refs)
   lines : ls ≡ rowLines t
 
-rows-are : (c : Counts) (t : Tables) (ls : List (List ℕ)) → Prints (rowsPlan c) t ls → RowsAre c t ls
+rows-are : (c : Counts) (t : Tables) (ls : List (List ℕ)) → LaysOut (rowsPlan c) t ls → RowsAre c t ls
 unfolding rowsPlan
 rows-are c t ls (ns, l₁, ok₀, w₀, (es, l₂, ok₁, w₁, (rs, l₃, ok₂, w₂, (told, none), q₂), q₁), q₀) =
     let a₂ = q₂ ∙ ap (λ (r : List (List ℕ)). linesOf refKey refForm (c .refs) rs ++ r) none ∙ append-nil _ in
@@ -179,9 +180,9 @@ rows-are c t ls (ns, l₁, ok₀, w₀, (es, l₂, ok₁, w₁, (rs, l₃, ok₂
       lines = q₀ ∙ ap (λ (r : List (List ℕ)). linesOf nodeKey nodeForm (c .nodes) ns ++ r) a₁;
     })
 
-pub prints-text : (t : Tables) (ls : List (List ℕ)) → Prints textPlan t ls → (ls ≡ textLines t) × Lendable t
-unfolding follow headPlan
-prints-text t ls (
+laid-plan : (t : Tables) (ls : List (List ℕ)) → LaysOut textPlan t ls → (ls ≡ planLines t) × Lendable t
+unfolding planThen headPlan
+laid-plan t ls (
   e,
   l₁,
   ok₀,
@@ -228,3 +229,11 @@ prints-text t ls (
             };
       },
     )
+
+-- ---- the same of the lines of the text
+
+pub text-laid : (t : Tables) → Lendable t → LaysOut textPlan t (textLines t)
+text-laid t o = subst⁻¹ (LaysOut textPlan t) (text-plan t (sizes-of o)) (plan-laid t o)
+
+pub laid-text : (t : Tables) (ls : List (List ℕ)) → LaysOut textPlan t ls → (ls ≡ textLines t) × Lendable t
+laid-text t ls p = let (q, o) = laid-plan t ls p in (q ∙ sym (text-plan t (sizes-of o)), o)

@@ -7,6 +7,7 @@ use native.Mathlib.Omega.{arith}
 use lib.ListN.{length}
 use lib.Seq.{length-sets}
 use Rattle.ground.specs.Stores.{Put}
+use Rattle.ground.specs.Lists.{joined}
 use Rattle.ground.proofs.ListLaws.{sets-front, put-append}
 use Rattle.ground.proofs.TestLaws.{by-test}
 use Rattle.answers.specs.declared.Answer.{Answer}
@@ -17,11 +18,12 @@ use Rattle.tables.specs.Rules.{Sizes, Gives}
 use Rattle.tables.specs.Tests.{nodesFit, edgesFit, refsFit}
 use Rattle.tables.specs.Says.{sizesSay}
 use Rattle.tables.proofs.GivesLaws.{gives-says, sizes-pass, sizes-refuse}
-use Rattle.lines.specs.Lines.{oneLine, joined}
+use Rattle.lines.specs.Lines.{oneLine}
 use Rattle.text.specs.declared.forms.Counts.{Counts}
-use Rattle.text.specs.Text.{edition, editionKey, startKey, nodesKey, edgesKey, refsKey, nodeKey, edgeKey, refKey}
-use Rattle.text.specs.Text.{nodeForm, edgeForm, refForm, countsOf, headLines, rowLines, textOf}
-use Rattle.text.specs.Sizes.{Counted, Fit, RowsFit, headBytes, rowBytes, mostHead, mostRowBytes}
+use Rattle.text.specs.Forms.{edition, editionKey, startKey, nodesKey, edgesKey, refsKey, nodeKey, edgeKey, refKey}
+use Rattle.text.specs.Forms.{nodeForm, edgeForm, refForm, countsOf, headLines, rowLines}
+use Rattle.text.specs.Text.{textOf}
+use Rattle.text.specs.Sizes.{Measured, TablesFit, RowsFit, headBytes, rowBytes, mostHead, mostRowBytes}
 use Rattle.text.specs.Answers.{Written, out-of-size, short, wrote}
 use Rattle.text.proofs.SizeLaws.{tableText, head-length, rows-text, text-parts, text-length}
 
@@ -44,17 +46,17 @@ module _ (x y z : Table) {o o₁ o₂ o₃ : List ℕ} {i i₁ i₂ i₃ : ℕ} 
       → Put o₂ i₂ (tableText refKey refForm z) o₃ i₃ → Put o i (joined (rowLines (tables x y z))) o₃ i₃
   rows-put n m k = rw (rows-text (tables x y z)) (put-append n (put-append m k))
 
-text-put : (t : Tables) {o o₁ o₂ : List ℕ} {i i₁ i₂ : ℕ} → Put o i (joined (headLines (countsOf t))) o₁ i₁
+text-put : (t : Tables) → Sizes t → {o o₁ o₂ : List ℕ} {i i₁ i₂ : ℕ} → Put o i (joined (headLines (countsOf t))) o₁ i₁
     → Put o₁ i₁ (joined (rowLines t)) o₂ i₂ → Put o i (textOf t) o₂ i₂
-text-put t a b = rw (text-parts t) (put-append a b)
+text-put t s a b = rw (text-parts t s) (put-append a b)
 
-text-long : (t : Tables) {h b : ℕ} → Counted (headBytes (countsOf t)) mostHead h → Counted (rowBytes t) mostRowBytes b
-    → h + b ≡ length (textOf t)
-text-long t head rows = omega (arith, text-length t, head .count, rows .count)
+text-long : (t : Tables) → Sizes t → {h b : ℕ} → Measured (headBytes (countsOf t)) mostHead h
+    → Measured (rowBytes t) mostRowBytes b → h + b ≡ length (textOf t)
+text-long t s head rows = omega (arith, text-length t s, head .count, rows .count)
 
 -- after the first lines, the rows have room
-pub rows-ready : {t : Tables} {h b : ℕ} {out out₁ : List ℕ} {i : ℕ} → Fit t
-    → Counted (headBytes (countsOf t)) mostHead h → Counted (rowBytes t) mostRowBytes b → h + b ≤ length out
+pub rows-ready : {t : Tables} {h b : ℕ} {out out₁ : List ℕ} {i : ℕ} → TablesFit t
+    → Measured (headBytes (countsOf t)) mostHead h → Measured (rowBytes t) mostRowBytes b → h + b ≤ length out
     → Put out 0 (joined (headLines (countsOf t))) out₁ i → RowsFit t i out₁
 rows-ready {t} {out = out} fit head rows l p =
     record {
@@ -84,7 +86,7 @@ size-named t e =
     (λ a. (0, simp a))
 
 module _ {t : Tables} {a : Answer} (says : a ≡ sizes t) where
-  pub sizes-fit : refuses a ≡ false → Fit t
+  pub sizes-fit : refuses a ≡ false → TablesFit t
   sizes-fit e =
       let s = sizes-pass t (ap refuses (sym says) ∙ e) in
       record {
@@ -104,18 +106,18 @@ module _ {t : Tables} {a : Answer} (says : a ≡ sizes t) where
       let (p, q) = size-named t r in
       rw (says ∙ q) (out-of-size (subst (Gives t) (sym (sizes-refuse t r) ∙ q) (gives-says t)))
 
-  module _ (e : refuses a ≡ false) {h b : ℕ} (head : Counted (headBytes (countsOf t)) mostHead h)
-      (rows : Counted (rowBytes t) mostRowBytes b) where
+  module _ (e : refuses a ≡ false) {h b : ℕ} (head : Measured (headBytes (countsOf t)) mostHead h)
+      (rows : Measured (rowBytes t) mostRowBytes b) where
     right : Sizes t
     right = sizes-pass t (ap refuses (sym says) ∙ e)
 
     pub written-short : {out : List ℕ} → length out < h + b → Written t out (TextRoom (h + b)) out
-    written-short l = let long = text-long t head rows in rw long (short right (omega arith))
+    written-short l = let long = text-long t right head rows in rw long (short right (omega arith))
 
     pub written-all : {out out₁ out₂ : List ℕ} {i n : ℕ} → h + b ≤ length out
         → Put out 0 (joined (headLines (countsOf t))) out₁ i → Put out₁ i (joined (rowLines t)) out₂ n
         → Written t out (Done 0 (h + b)) out₂
     written-all {out} l p q =
-        let long = text-long t head rows in
+        let long = text-long t right head rows in
         let room : length (textOf t) ≤ length out = omega arith in
-        rw (long, text-put t p q .held ∙ sets-front out (textOf t) room) (wrote right room)
+        rw (long, text-put t right p q .held ∙ sets-front out (textOf t) room) (wrote right room)

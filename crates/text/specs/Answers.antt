@@ -1,25 +1,16 @@
--- What the two calls promise, in the document's words and by `textOf` alone. proofs/PromiseLaws.antt: for every input
--- there is one outcome that a promise allows, and no other.
---   Written          the answers of write text, each with its condition and what the output then holds
---   Accepted s t     the text s is that of the tables t; NotOfForm s: it is that of none
---   nothing          no tables; readingOf: an answer with the start and the counts of tables
---   Fits, TooShort   the lent tables have room for those of t; or the first that has not
---   Read             the answers of read text, each with its condition and what the tables then hold
---   fronts           the tables that lie at the front of the lent ones, by the start and the counts of the answer
--- Assumes nothing.
+-- What the calls write text and read text promise. Assumes nothing.
 use mathlib.Core.List.{List, []}
 use mathlib.Core.Path.{_≡_}
-use Prim.Native.Nat.{ℕ, _*_, _≤_, _<_}
+use Prim.Native.Nat.{ℕ, _≤_, _<_}
 use lib.ListN.{length, take}
-use Rattle.ground.specs.Lists.{front}
+use Rattle.ground.specs.Lists.{joined, front, Stands}
 use Rattle.answers.specs.declared.Answer.{Answer}
 use Rattle.answers.specs.declared.Answer.the-variants.{Done, Size, Room, Text, TextRoom}
 use Rattle.answers.specs.Numbers.{passed}
-use Rattle.tables.specs.Tables.{nodeWidth, edgeWidth, refWidth, Tables, lent}
+use Rattle.tables.specs.Tables.{Tables, lent}
 use Rattle.tables.specs.Rules.{Sizes, Gives}
-use Rattle.text.specs.declared.read.Reading.{Reading}
-use Rattle.text.specs.Text.{Lendable, textOf}
-use Rattle.text.specs.Place.{FirstWrong}
+use Rattle.text.specs.declared.read.TextReading.{TextReading}
+use Rattle.text.specs.Text.{Lendable, textLines, textOf}
 
 -- [01:What the calls answer] Write text "judges table sizes only: 1, then 32. Otherwise place is the byte count, and
 -- bytes after it are unchanged."; "TEXTROOM: text output too short; place: bytes needed"; "No refusal writes to a
@@ -41,19 +32,24 @@ pub record Accepted (s : List ℕ) (t : Tables) : Type 0 where
 abbrev pub NotOfForm : List ℕ → Type 0
 NotOfForm s = (t : Tables) → Accepted s t → ⊥
 
+-- the text of the first j lines
+abbrev pub firstLines : ℕ → Tables → List ℕ
+firstLines j t = joined (take j (textLines t))
+
+-- [01:The text] "Place of TEXT is the offset of the first byte of the first line that is not what must stand there: a
+-- line lacking its LF, or extra text, counts; for a missing line it is the text length." Up to p, s begins with lines
+-- of the text of some tables, and there is no longer such beginning.
+pub record FirstWrong (s : List ℕ) (p : ℕ) : Type 0 where
+  pub reached : (t : Tables) × (j : ℕ) × Lendable t × Stands s 0 (firstLines j t) p
+  pub furthest : (t : Tables) (j n : ℕ) → Lendable t → Stands s 0 (firstLines j t) n → n ≤ p
+
 -- [01:What the calls answer] "the answer also carries start and three counts, which are 0 on refusal"
 abbrev pub nothing : Tables
 nothing = lent 0 [] 0 [] 0 [] 0
 
-abbrev pub readingOf : Answer → Tables → Reading
+abbrev pub readingOf : Answer → Tables → TextReading
 readingOf a t =
-    record {
-      answer = a;
-      start = t .start;
-      nodes = t .nodes .count;
-      edges = t .edges .count;
-      refs = t .refs .count;
-    }
+    record { answer = a; start = t .start; nodes = t .nodes .count; edges = t .edges .count; refs = t .refs .count }
 
 -- [01:What the calls answer] "21 (place 0, 1, 2: first table too short)"
 module _ (t : Tables) (n e f : List ℕ) where
@@ -72,15 +68,9 @@ module _ (t : Tables) (n e f : List ℕ) where
 -- the front of each table, the rest unchanged, and the answer also carries start and three counts, which are 0 on
 -- refusal."; "No refusal writes to a lent table or buffer." A text of the form has a `FirstWrong` too, its length, so
 -- TEXT asks for both.
-pub data Read (s n e f : List ℕ) : Reading → List ℕ → List ℕ → List ℕ → Type 0 where
+pub data Read (s n e f : List ℕ) : TextReading → List ℕ → List ℕ → List ℕ → Type 0 where
   wrong-text : {p : ℕ} → NotOfForm s → FirstWrong s p → Read s n e f (readingOf (Text p) nothing) n e f
   no-room : {t : Tables} {k : ℕ} → Accepted s t → TooShort t n e f k → Read s n e f (readingOf (Room 0 k) nothing) n e f
   took : {t : Tables} → Accepted s t → Fits t n e f
       → Read s n e f (readingOf passed t) (front (t .nodes .numbers) n) (front (t .edges .numbers) e)
       (front (t .refs .numbers) f)
-
--- where a caller finds what was read
-abbrev pub fronts : Reading → List ℕ → List ℕ → List ℕ → Tables
-fronts r n e f =
-    lent (r .start) (take (r .nodes * nodeWidth) n) (r .nodes) (take (r .edges * edgeWidth) e) (r .edges)
-    (take (r .refs * refWidth) f) (r .refs)

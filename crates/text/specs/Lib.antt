@@ -1,5 +1,5 @@
 pub mod Text
-pub mod Place
 pub mod Answers
+pub mod Forms
 pub mod Reads
 pub mod Sizes

@@ -8,7 +8,7 @@
 --                        there
 --   valueOf              the number that was read, or 0
 --   headOf               what the reader of the first five lines answers
---   roomSays             ROOM, for tables with room for n, e and f numbers where a, b and c are needed
+--   shortSays            ROOM, for tables with room for n, e and f numbers where a, b and c are needed
 --   Announced            the rows that were counted stand there, and have room in n, e and f
 --   Held                 the tables n, e, f after those of t were stored at their fronts
 -- Assumes nothing.
@@ -30,14 +30,14 @@ use Rattle.decimals.specs.declared.Num.the-variants.{Is, Missing}
 use Rattle.lines.specs.declared.form.Form.{Form}
 use Rattle.lines.specs.Lines.{oneForm}
 use Rattle.lines.specs.Reads.{Got, got, wrong, andThen, isGot}
-use Rattle.lines.specs.Plans.{Plan, stop, lines, follow, planAt}
+use Rattle.lines.specs.Plans.{Plan, stop, lines, planThen, planAt}
 use Rattle.lines.specs.declared.read.Ended.{Ended}
 use Rattle.lines.specs.declared.read.Ended.the-variants.{At, Wrong}
 use Rattle.text.specs.declared.forms.Counts.{Counts}
 use Rattle.text.specs.declared.read.Head.{Head}
 use Rattle.text.specs.declared.read.Head.the-variants.{Counted, Misplaced}
-use Rattle.text.specs.Text.{counted, edition, editionKey, startKey, nodesKey, edgesKey, refsKey, nodeKey, edgeKey}
-use Rattle.text.specs.Text.{refKey, nodeForm, edgeForm, refForm}
+use Rattle.text.specs.Forms.{counted, edition, editionKey, startKey, nodesKey, edgesKey, refsKey, nodeKey}
+use Rattle.text.specs.Forms.{edgeKey, refKey, nodeForm, edgeForm, refForm}
 
 -- [01:The text] "Counts outside the sizes above make their line wrong."
 abbrev pub editionForm : Form
@@ -76,7 +76,7 @@ rowsPlan c =
     λ rs. stop (counted c ns es rs)
 
 abbrev pub textPlan : Plan Tables
-textPlan = follow headPlan rowsPlan
+textPlan = planThen headPlan rowsPlan
 
 -- [01:The text] "extra text, counts"
 abbrev pub whole : {A : Type 0} → List ℕ → Got A → Got A
@@ -97,8 +97,8 @@ valueOf (Is v n) = v
 valueOf (Missing p) = 0
 
 -- [01:What the calls answer] "21 (place 0, 1, 2: first table too short)"
-unfoldable pub roomSays : ℕ → ℕ → ℕ → ℕ → ℕ → ℕ → Answer
-roomSays a b c n e f = when (ltb n a) (Room 0 0) ⨾ when (ltb e b) (Room 0 1) ⨾ when (ltb f c) (Room 0 2)
+unfoldable pub shortSays : ℕ → ℕ → ℕ → ℕ → ℕ → ℕ → Answer
+shortSays a b c n e f = when (ltb n a) (Room 0 0) ⨾ when (ltb e b) (Room 0 1) ⨾ when (ltb f c) (Room 0 2)
 
 pub record Announced (s : List ℕ) (at : ℕ) (c : Counts) (n e f : List ℕ) : Type 0 where
   pub reached : at ≤ length s

@@ -1,31 +1,21 @@
--- The text of tables, edition 1.
---   Small vs           all of the numbers are 32-bit numbers
---   Lendable t         the tables are just their rows, as many as the sizes allow, of 32-bit numbers; LendableTable: a
---                      table is
---   edition            the number of the edition
---   editionKey, startKey, nodesKey, edgesKey, refsKey   the keys of the first five lines
---   nodeKey, edgeKey, refKey                            the keys of the rows
---   nodeForm, edgeForm, refForm                         the forms of the rows
---   countsOf           what the first five lines say of tables; counted: the tables of which they say it
---   headLines          the first five lines; rowLines: the lines of the rows
---   textLines, textOf  the lines of the text, each with its LF; the text
--- Assumes nothing.
-use mathlib.Core.Bool.{true, false}
+-- The text of tables, edition 1. Assumes nothing.
+use mathlib.Core.Bool.{cond}
 use mathlib.Core.List.{List, [], _∷_, _++_}
-use Prim.Native.Nat.{ℕ, _≤_}
+use Prim.Native.Nat.{ℕ, zero, suc, _≤_}
+use Prim.Native.String.{String}
+use lib.Dec.{eqb}
 use lib.ListN.{getD}
-use Rattle.tables.specs.Tables.{Now, nodeWidth, edgeWidth, refWidth, Table, Tables, lent}
+use Rattle.ground.specs.Lists.{bytes, joined}
+use Rattle.tables.specs.Tables.{Now, NodeRow, EdgeRow, RefRow, nodeWidth, edgeWidth, refWidth, Table, Tables, nodeIn}
+use Rattle.tables.specs.Tables.{edgeIn, refIn}
 use Rattle.tables.specs.Rules.{leastNodes, mostNodes, mostEdges, mostRefs, Whole}
-use Rattle.lines.specs.declared.form.Form.{Form}
-use Rattle.lines.specs.Lines.{rowForm, oneLine, linesOf, joined}
-use Rattle.text.specs.declared.forms.Counts.{Counts}
+use Rattle.decimals.specs.Decimals.{dec}
 
 -- [01:Instants and tables] "Tables are lent as 32-bit numbers."
 abbrev pub Small : List ℕ → Type 0
 Small vs = (i : ℕ) → getD vs i 0 ≤ Now
 
--- where rows have w numbers, and there are lo to hi of them
--- just its rows, and within the sizes: a text's tables stay so also where a lent slice may hold more than its rows
+-- just its rows of w numbers, lo to hi of them: a text's tables stay so also where a lent slice may hold more
 pub record LendableTable (w lo hi : ℕ) (x : Table) : Type 0 where
   pub small : Small (x .numbers)
   pub whole : Whole w x
@@ -38,69 +28,45 @@ pub record Lendable (t : Tables) : Type 0 where
   pub edges : LendableTable edgeWidth 0 mostEdges (t .edges)
   pub refs : LendableTable refWidth 0 mostRefs (t .refs)
 
--- [01:The text] "Lines `key=value` .. in this order: `edition=1`, `start=`, `nodes=`, `edges=`, `refs=`, then all
--- `node=` lines, `edge=` lines, `ref=` lines, as many as counted."
-abbrev pub edition : ℕ
-edition = 1
+-- [01:The text] "Row numbers are joined by commas."
+unfoldable pub commas : List (List ℕ) → List ℕ
+commas [] = []
+commas (x ∷ []) = x
+commas (x ∷ (y ∷ xs)) = x ++ (bytes "," ++ commas (y ∷ xs))
 
-abbrev pub editionKey : List ℕ
-editionKey = 101 ∷ 100 ∷ 105 ∷ 116 ∷ 105 ∷ 111 ∷ 110 ∷ 61 ∷ []
-
-abbrev pub startKey : List ℕ
-startKey = 115 ∷ 116 ∷ 97 ∷ 114 ∷ 116 ∷ 61 ∷ []
-
-abbrev pub nodesKey : List ℕ
-nodesKey = 110 ∷ 111 ∷ 100 ∷ 101 ∷ 115 ∷ 61 ∷ []
-
-abbrev pub edgesKey : List ℕ
-edgesKey = 101 ∷ 100 ∷ 103 ∷ 101 ∷ 115 ∷ 61 ∷ []
-
-abbrev pub refsKey : List ℕ
-refsKey = 114 ∷ 101 ∷ 102 ∷ 115 ∷ 61 ∷ []
-
-abbrev pub nodeKey : List ℕ
-nodeKey = 110 ∷ 111 ∷ 100 ∷ 101 ∷ 61 ∷ []
-
-abbrev pub edgeKey : List ℕ
-edgeKey = 101 ∷ 100 ∷ 103 ∷ 101 ∷ 61 ∷ []
-
-abbrev pub refKey : List ℕ
-refKey = 114 ∷ 101 ∷ 102 ∷ 61 ∷ []
+-- [01:The text] "Lines `key=value`, each ended by one LF byte"
+abbrev pub line : String → List (List ℕ) → List ℕ
+line key xs = bytes key ++ (commas xs ++ bytes "\n")
 
 -- [01:The text] "The fourth number of an edge or ref is `now` where it is 4294967295"
-abbrev pub nodeForm : Form
-nodeForm = rowForm nodeWidth false
+abbrev pub end : ℕ → List ℕ
+end to = cond (eqb to Now) (bytes "now") (dec to)
 
-abbrev pub edgeForm : Form
-edgeForm = rowForm edgeWidth true
+abbrev pub nodeLine : NodeRow → List ℕ
+nodeLine x = line "node=" (dec (x .kind) ∷ dec (x .label) ∷ dec (x .value) ∷ [])
 
-abbrev pub refForm : Form
-refForm = rowForm refWidth true
+abbrev pub edgeLine : EdgeRow → List ℕ
+edgeLine x = line "edge=" (dec (x .parent) ∷ dec (x .child) ∷ dec (x .from) ∷ end (x .to) ∷ [])
 
-abbrev pub countsOf : Tables → Counts
-countsOf t =
-    record { start = t .start; nodes = t .nodes .count; edges = t .edges .count; refs = t .refs .count }
+abbrev pub refLine : RefRow → List ℕ
+refLine x = line "ref=" (dec (x .attribute) ∷ dec (x .target) ∷ dec (x .from) ∷ end (x .to) ∷ [])
 
-abbrev pub counted : Counts → List ℕ → List ℕ → List ℕ → Tables
-counted c ns es rs = lent (c .start) ns (c .nodes) es (c .edges) rs (c .refs)
+-- f 0, f 1, .. f (n - 1)
+unfoldable pub listed : (ℕ → List ℕ) → ℕ → List (List ℕ)
+listed f zero = []
+listed f (suc n) = f 0 ∷ listed (λ i. f (suc i)) n
 
-abbrev pub headLines : Counts → List (List ℕ)
-headLines c =
-    oneLine editionKey edition
-    ∷ oneLine startKey (c .start)
-    ∷ oneLine nodesKey (c .nodes)
-    ∷ oneLine edgesKey (c .edges)
-    ∷ oneLine refsKey (c .refs)
-    ∷ []
-
-abbrev pub rowLines : Tables → List (List ℕ)
-rowLines t =
-    linesOf nodeKey nodeForm (t .nodes .count) (t .nodes .numbers)
-    ++ (linesOf edgeKey edgeForm (t .edges .count) (t .edges .numbers)
-    ++ linesOf refKey refForm (t .refs .count) (t .refs .numbers))
-
+-- [01:The text] "in this order: `edition=1`, `start=`, `nodes=`, `edges=`, `refs=`, then all `node=` lines, `edge=`
+-- lines, `ref=` lines, as many as counted."
 abbrev pub textLines : Tables → List (List ℕ)
-textLines t = headLines (countsOf t) ++ rowLines t
+textLines t =
+    line "edition=" (dec 1 ∷ [])
+    ∷ line "start=" (dec (t .start) ∷ [])
+    ∷ line "nodes=" (dec (t .nodes .count) ∷ [])
+    ∷ line "edges=" (dec (t .edges .count) ∷ [])
+    ∷ line "refs=" (dec (t .refs .count) ∷ [])
+    ∷ (listed (λ i. nodeLine (nodeIn t i)) (t .nodes .count)
+    ++ (listed (λ i. edgeLine (edgeIn t i)) (t .edges .count) ++ listed (λ i. refLine (refIn t i)) (t .refs .count)))
 
 abbrev pub textOf : Tables → List ℕ
 textOf t = joined (textLines t)

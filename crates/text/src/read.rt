@@ -3,9 +3,9 @@ ghost use mathlib.Core.Path.{_≡_};
 ghost use Prim.Native.Nat.{_*_, _≤_};
 ghost use lib.ListN.{length};
 ghost use Rattle.tables.specs.Tables.{nodeWidth, edgeWidth, refWidth};
-ghost use Rattle.lines.specs.Reads.{got, endOf, gotOf, thenEnded};
+ghost use Rattle.lines.specs.Reads.{got, endedOf, gotOf, thenEnded};
 ghost use Rattle.lines.specs.Plans.{planAt};
-ghost use Rattle.text.specs.Reads.{headPlan, rowsPlan, valueOf, headOf, whole, endAt, roomSays, Announced, Held};
+ghost use Rattle.text.specs.Reads.{headPlan, rowsPlan, valueOf, headOf, whole, endAt, shortSays, Announced, Held};
 ghost use Rattle.text.specs.Answers.{nothing, readingOf, Read};
 use super::forms::Counts;
 use super::forms::EDGE_FORM;
@@ -30,7 +30,7 @@ use tables::sizes::MOST_NODES;
 use tables::sizes::MOST_REFS;
 
 // What read text answers: with the answer, the start and how many rows each table has, 0 where it refuses.
-pub struct Reading {
+pub struct TextReading {
     pub answer: Answer,
     pub start: u32,
     pub nodes: u32,
@@ -44,10 +44,10 @@ enum Head {
     Misplaced(usize),
 }
 
-fn refusal(answer: Answer) -> Reading
+fn refusal(answer: Answer) -> TextReading
     ensures { λ r. ⌜ r ≡ readingOf answer nothing ⌝ }
 {
-    Reading {
+    TextReading {
         answer,
         start: 0,
         nodes: 0,
@@ -108,7 +108,7 @@ fn then_end(ended: Ended, text: &[u8]) -> Ended
 // Whether the rows that c announces stand from place at on, and nothing after them.
 fn scan_rows(text: &[u8], at: usize, c: Counts) -> Ended
     requires { ⌜ at ≤ length (now text) ⌝ }
-    ensures { λ r. ⌜ r ≡ endOf (whole (now (text .entry)) (planAt (rowsPlan c) (now (text .entry)) at)) ⌝ }
+    ensures { λ r. ⌜ r ≡ endedOf (whole (now (text .entry)) (planAt (rowsPlan c) (now (text .entry)) at)) ⌝ }
 {
     let nodes = check_lines(text, at, b"node=", NODE_FORM, c.nodes);
     let edges = then_lines(nodes, text, b"edge=", EDGE_FORM, c.edges);
@@ -118,7 +118,7 @@ fn scan_rows(text: &[u8], at: usize, c: Counts) -> Ended
 
 // Whether tables of so many numbers hold the rows that c announces.
 fn judge_room(c: Counts, nodes: usize, edges: usize, refs: usize) -> Answer
-    ensures { λ r. ⌜ r ≡ roomSays (c .nodes * nodeWidth) (c .edges * edgeWidth) (c .refs * refWidth) nodes edges
+    ensures { λ r. ⌜ r ≡ shortSays (c .nodes * nodeWidth) (c .edges * edgeWidth) (c .refs * refWidth) nodes edges
         refs ⌝ }
 {
     if nodes < (c.nodes as usize) * NODE_WIDTH {
@@ -159,7 +159,7 @@ fn read_rows(
     nodes: &mut [u32],
     edges: &mut [u32],
     refs: &mut [u32],
-) -> Reading
+) -> TextReading
     requires { ⌜ planAt headPlan (now text) 0 ≡ got c at ⌝ }
     ensures { λ r. ⌜ Read (now (text .entry)) (now (nodes .entry)) (now (edges .entry)) (now (refs .entry)) r
         (now (nodes .exit)) (now (edges .exit)) (now (refs .exit)) ⌝ }
@@ -176,7 +176,7 @@ fn read_rows(
                 return refusal(room);
             }
             fill_rows(text, at, c, nodes, edges, refs);
-            Reading {
+            TextReading {
                 answer: room,
                 start: c.start,
                 nodes: c.nodes,
@@ -187,7 +187,7 @@ fn read_rows(
     }
 }
 
-pub fn read_text(text: &[u8], nodes: &mut [u32], edges: &mut [u32], refs: &mut [u32]) -> Reading
+pub fn read_text(text: &[u8], nodes: &mut [u32], edges: &mut [u32], refs: &mut [u32]) -> TextReading
     ensures { λ r. ⌜ Read (now (text .entry)) (now (nodes .entry)) (now (edges .entry)) (now (refs .entry)) r
         (now (nodes .exit)) (now (edges .exit)) (now (refs .exit)) ⌝ }
 {

@@ -3,9 +3,9 @@ ghost use Prim.Native.Nat.{_≤_};
 ghost use lib.ListN.{length};
 ghost use Rattle.tables.specs.Tables.{lent};
 ghost use Rattle.ground.specs.Stores.{Put};
-ghost use Rattle.lines.specs.Lines.{joined};
-ghost use Rattle.text.specs.Text.{headLines, rowLines, counted};
-ghost use Rattle.text.specs.Sizes.{Counted, Fit, RowsFit, headBytes, rowBytes, mostHead, mostRowBytes};
+ghost use Rattle.ground.specs.Lists.{joined};
+ghost use Rattle.text.specs.Forms.{headLines, rowLines, counted};
+ghost use Rattle.text.specs.Sizes.{Measured, TablesFit, RowsFit, headBytes, rowBytes, mostHead, mostRowBytes};
 ghost use Rattle.text.specs.Answers.{Written};
 use super::forms::Counts;
 use super::forms::EDGE_FORM;
@@ -21,7 +21,7 @@ use tables::sizes::judge_sizes;
 
 // How many bytes the first five lines have.
 fn head_len(c: Counts) -> usize
-    ensures { λ r. ⌜ Counted (headBytes c) mostHead r ⌝ }
+    ensures { λ r. ⌜ Measured (headBytes c) mostHead r ⌝ }
 {
     let a = one_len(b"edition=", EDITION);
     let b = one_len(b"start=", c.start);
@@ -33,8 +33,8 @@ fn head_len(c: Counts) -> usize
 
 // How many bytes the rows have.
 fn rows_len(c: Counts, nodes: &[u32], edges: &[u32], refs: &[u32]) -> usize
-    requires { ⌜ Fit (counted c (now nodes) (now edges) (now refs)) ⌝ }
-    ensures { λ r. ⌜ Counted (rowBytes (counted c (now (nodes .entry)) (now (edges .entry)) (now (refs .entry))))
+    requires { ⌜ TablesFit (counted c (now nodes) (now edges) (now refs)) ⌝ }
+    ensures { λ r. ⌜ Measured (rowBytes (counted c (now (nodes .entry)) (now (edges .entry)) (now (refs .entry))))
         mostRowBytes r ⌝ }
 {
     let n = lines_len(b"node=", NODE_FORM, nodes, c.nodes);

@@ -1,7 +1,7 @@
 use native.Mathlib.Omega.{arith}
 use borrow.Author.Needs.{needs}
+use Rattle.ground.specs.Lists.{bytes}
 use Rattle.lines.proofs.WriteLaws.{one-short}
-use Rattle.check_history.specs.Says.{codeKey, instantKey, placeKey}
 use Rattle.check_history.proofs.SaysLaws.{put-printed, printed-most}
 use Rattle.check_history.proofs.write_answer.Statement.{statement}
 use Rattle.check_history.proofs.write_answer.Tie as tie
@@ -17,7 +17,7 @@ write-one-requires c κs =
     omega (
       arith,
       c .before .before .before .before .pre,
-      one-short codeKey (c .code .result) (omega arith) (omega arith),
+      one-short (bytes "code=") (c .code .result) (omega arith) (omega arith),
     )
 
 slice-aggregate-write-one-2 : tie.Need-slice-aggregate-write-one-2
@@ -34,8 +34,8 @@ write-one-requires-2 c κs =
       first .before .before .before .before .before .pre,
       first .write-one .ensures .after,
       first .write-one .kept .0,
-      one-short codeKey (first .before .code .result) (omega arith) (omega arith),
-      one-short instantKey (c .instant .result) (omega arith) (omega arith),
+      one-short (bytes "code=") (first .before .code .result) (omega arith) (omega arith),
+      one-short (bytes "instant=") (c .instant .result) (omega arith) (omega arith),
     )
 
 slice-aggregate-write-one-3 : tie.Need-slice-aggregate-write-one-3
@@ -55,9 +55,9 @@ write-one-requires-3 c κs =
       first .write-one .kept .0,
       second .write-one2 .ensures .after,
       second .write-one2 .kept .0,
-      one-short codeKey (first .before .code .result) (omega arith) (omega arith),
-      one-short instantKey (second .before .instant .result) (omega arith) (omega arith),
-      one-short placeKey (c .place .result) (omega arith) (omega arith),
+      one-short (bytes "code=") (first .before .code .result) (omega arith) (omega arith),
+      one-short (bytes "instant=") (second .before .instant .result) (omega arith) (omega arith),
+      one-short (bytes "place=") (c .place .result) (omega arith) (omega arith),
     )
 
 same-length : tie.Need-same-length

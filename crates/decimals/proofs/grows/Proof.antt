@@ -1,6 +1,6 @@
 use borrow.Author.Needs.{needs}
 use borrow.Author.Tests.{lt-ltb, le-ltb}
-use Rattle.decimals.specs.Decimals.{grows}
+use Rattle.decimals.specs.Reads.{grows}
 use Rattle.decimals.proofs.grows.Statement.{statement}
 use Rattle.decimals.proofs.grows.Tie as tie
 

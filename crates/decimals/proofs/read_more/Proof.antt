@@ -4,12 +4,12 @@ use native.Mathlib.Omega.{arith}
 use borrow.Author.Needs.{needs}
 use denote.Ref.{now}
 use lib.ListN.{length, getD}
-use Rattle.decimals.proofs.ReadLaws.{Grows, grows-true, Reading, more-turn, more-stop, more-end}
+use Rattle.decimals.proofs.ReadLaws.{Grows, grows-true, ReadSoFar, more-turn, more-stop, more-end}
 use Rattle.decimals.proofs.read_more.Statement.{statement}
 use Rattle.decimals.proofs.read_more.Tie as tie
 
 abbrev Inv-loop : tie.InvT-loop
-Inv-loop text at hi first v₀ i₀ v i = Reading hi first text at v i
+Inv-loop text at hi first v₀ i₀ v i = ReadSoFar hi first text at v i
 
 abbrev μ-loop : tie.MeasureT-loop
 μ-loop text at hi first v₀ i₀ v i = length text - i

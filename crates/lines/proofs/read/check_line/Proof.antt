@@ -1,5 +1,5 @@
 use mathlib.Core.Path.{sym, ap, _∙_}
-use Rattle.lines.specs.Reads.{endOf}
+use Rattle.lines.specs.Reads.{endedOf}
 use Rattle.lines.proofs.NumberLaws.{begun-within}
 use Rattle.lines.proofs.StepLaws.{line-has, line-not}
 use Rattle.lines.proofs.GotLaws.{end-wrong}
@@ -23,7 +23,7 @@ check-numbers-requires c κs = begun-within _ _ _ _ (c .before .begun .ensures) 
 returns : tie.Need-returns
 returns c =
     c .check-numbers .ensures
-    ∙ ap endOf (sym (line-has _ _ _ _ _ (c .before .before .begun .ensures) (c .before .if1 .taken)))
+    ∙ ap endedOf (sym (line-has _ _ _ _ _ (c .before .before .begun .ensures) (c .before .if1 .taken)))
 
 returns-2 : tie.Need-returns-2
 returns-2 c = sym (end-wrong _ (line-not _ _ _ _ _ (c .before .begun .ensures) (c .if1 .left)))

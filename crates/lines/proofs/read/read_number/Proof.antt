@@ -42,10 +42,13 @@ add-after c =
     let b = c .before in
     omega (arith, begun-within _ _ _ _ (b .begun .ensures) (last b .before .before .pre))
 
+instant-requires : tie.Need-instant-requires
+instant-requires c κs = search needs
+
 returns-2 : tie.Need-returns-2
 returns-2 c =
-    let b = c .before .before in
-    sym (number-now _ _ _ _ (last b .if1 .taken) _ (b .begun .ensures) (c .if3 .taken))
+    let b = c .before .before .before in
+    sym (number-now _ _ _ _ (last b .if1 .taken) _ (b .begun .ensures) (c .before .if3 .taken) (c .instant .ensures))
 
 returns-3 : tie.Need-returns-3
 returns-3 c =
@@ -91,6 +94,7 @@ read-number-spec =
     read-decimal-requires
     returns
     add-after
+    instant-requires
     returns-2
     returns-3
     read-decimal-requires-2

@@ -1,57 +1,66 @@
-use mathlib.Core.Path.{ap}
+use mathlib.Core.Path.{_≡_, ap, _∙_}
 use lib.ListN.{length}
-use Rattle.lines.proofs.WriteLaws.{number-word, number-finite}
+use Rattle.decimals.specs.Decimals.{dec}
+use Rattle.lines.specs.Lines.{nowWord, endText, numberText}
 use borrow.Author.Needs.{needs}
 use native.Mathlib.Omega.{arith}
 use Rattle.lines.proofs.write.write_number.Statement.{statement}
 use Rattle.lines.proofs.write.write_number.Tie as tie
 
--- the places: the word, or a number
-abbrev word : tie.After-put-arg2 → tie.Then1
-word c = c .before .before
+-- the two places: the word, and a finite number
+current : (c : tie.After-enum-told) → let a = c .before .before .before .before .args in
+    numberText (a .last) (a .v) ≡ nowWord
+current c = c .before .before .written-as .ensures ∙ ap endText (c .enum-told .given .1)
 
-abbrev finite : tie.After-write-decimal-arg → tie.Else1
-finite c = c .before
+finite : (c : tie.After-end) → let a = c .before .before .before .before .args in
+    numberText (a .last) (a .v) ≡ dec (c .end .given .0 .0)
+finite c = c .before .before .written-as .ensures ∙ ap endText (c .end .given .1)
+
+written-as-requires : tie.Need-written-as-requires
+written-as-requires c κs = search needs
+
+enum-told : tie.Need-enum-told
+enum-told c = search needs
 
 slice-aggregate-put : tie.Need-slice-aggregate-put
 slice-aggregate-put c = search needs
 
 put-requires : tie.Need-put-requires
 put-requires c κs =
-    let s = word c .before .before in
-    omega (arith, ap length (number-word (s .args .last) (s .args .v) (word c .if1 .taken)), s .pre)
+    let told = c .before .before in
+    omega (arith, ap length (current told), told .before .before .before .before .pre)
+
+enum-known-end : tie.Need-enum-known-end
+enum-known-end c = search needs
+
+write-decimal-requires : tie.Need-write-decimal-requires
+write-decimal-requires c κs =
+    let told = c .before .before in
+    omega (arith, ap length (finite told), told .before .before .before .before .pre)
 
 same-length : tie.Need-same-length
 same-length c = search needs
 
 returns : tie.Need-returns
-returns c =
-    let w = word (c .before .before .before) in
-    let a = w .before .before .args in
-    rw (number-word (a .last) (a .v) (w .if1 .taken)) (c .before .before .put .ensures)
-
-write-decimal-requires : tie.Need-write-decimal-requires
-write-decimal-requires c κs =
-    let s = finite c .before .before in
-    omega (arith, ap length (number-finite (s .args .last) (s .args .v) (finite c .if1 .left)), s .pre)
+returns c = rw (current (c .before .before .before .before .before)) (c .before .before .put .ensures)
 
 same-length-2 : tie.Need-same-length-2
 same-length-2 c = search needs
 
 returns-2 : tie.Need-returns-2
-returns-2 c =
-    let w = finite (c .before .before .before) in
-    let a = w .before .before .args in
-    rw (number-finite (a .last) (a .v) (w .if1 .left)) (c .before .before .write-decimal .ensures)
+returns-2 c = rw (finite (c .before .before .before .before .before)) (c .before .before .write-decimal .ensures)
 
 pub write-number-spec : {M : Type 1} → statement M
 write-number-spec =
     tie.close
     (tie.spec
+    written-as-requires
+    enum-told
     slice-aggregate-put
     put-requires
+    enum-known-end
+    write-decimal-requires
     same-length
     returns
-    write-decimal-requires
     same-length-2
     returns-2)

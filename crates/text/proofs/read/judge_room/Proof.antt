@@ -1,5 +1,5 @@
 use borrow.Author.Tests.{lt-ltb, le-ltb}
-use Rattle.text.specs.Reads.{roomSays}
+use Rattle.text.specs.Reads.{shortSays}
 use borrow.Author.Needs.{needs}
 use Rattle.text.proofs.read.judge_room.Statement.{statement}
 use Rattle.text.proofs.read.judge_room.Tie as tie
@@ -11,7 +11,7 @@ mul-if1 : tie.Need-mul-if1
 mul-if1 c = search needs
 
 returns : tie.Need-returns
-unfolding roomSays
+unfolding shortSays
 returns c = simp (lt-ltb _ _ (c .if1 .taken))
 
 cast-if2 : tie.Need-cast-if2
@@ -21,7 +21,7 @@ mul-if2 : tie.Need-mul-if2
 mul-if2 c = search needs
 
 returns-2 : tie.Need-returns-2
-unfolding roomSays
+unfolding shortSays
 returns-2 c = simp (le-ltb _ _ (c .before .before .if1 .left), lt-ltb _ _ (c .if2 .taken))
 
 cast-if3 : tie.Need-cast-if3
@@ -31,13 +31,13 @@ mul-if3 : tie.Need-mul-if3
 mul-if3 c = search needs
 
 returns-3 : tie.Need-returns-3
-unfolding roomSays
+unfolding shortSays
 returns-3 c =
     let e = c .before .before in
     simp (le-ltb _ _ (e .before .before .if1 .left), le-ltb _ _ (e .if2 .left), lt-ltb _ _ (c .if3 .taken))
 
 returns-4 : tie.Need-returns-4
-unfolding roomSays
+unfolding shortSays
 returns-4 c =
     let e = c .before .before in
     simp (le-ltb _ _ (e .before .before .if1 .left), le-ltb _ _ (e .if2 .left), le-ltb _ _ (c .if3 .left))

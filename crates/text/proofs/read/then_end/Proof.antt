@@ -1,8 +1,21 @@
-use Rattle.lines.specs.Reads.{thenEnded}
+use denote.Ref.{now}
+use mathlib.Core.List.{List}
+use mathlib.Core.Path.{_≡_}
+use Prim.Native.Nat.{ℕ}
+use lib.ListN.{length}
 use borrow.Author.Tests.{eq-eqb, ne-eqb}
+use Rattle.lines.specs.Reads.{thenEnded}
+use Rattle.lines.specs.declared.read.Ended.the-variants.{At, Wrong}
+use Rattle.text.specs.Reads.{endAt}
 use borrow.Author.Needs.{needs}
 use Rattle.text.proofs.read.then_end.Statement.{statement}
 use Rattle.text.proofs.read.then_end.Tie as tie
+
+all-read : (s : List ℕ) (i : ℕ) → i ≡ length s → At i ≡ endAt s i
+all-read s i e = rw (eq-eqb i (length s) e)
+
+more-left : (s : List ℕ) (i : ℕ) → (i ≡ length s → ⊥) → Wrong i ≡ endAt s i
+more-left s i e = rw (ne-eqb i (length s) e)
 
 enum-known-ended : tie.Need-enum-known-ended
 enum-known-ended c = search needs
@@ -16,11 +29,15 @@ returns c = rw (c .before .ended .given .1)
 
 returns-2 : tie.Need-returns-2
 unfolding thenEnded
-returns-2 c = rw (c .before .before .ended2 .given .1, eq-eqb _ _ (c .if1 .taken))
+returns-2 c =
+    let d = c .before .before in
+    rw (d .ended2 .given .1) (all-read (now (d .before .before .args .text)) _ (c .if1 .taken))
 
 returns-3 : tie.Need-returns-3
 unfolding thenEnded
-returns-3 c = rw (c .before .before .ended2 .given .1, ne-eqb _ _ (c .if1 .left))
+returns-3 c =
+    let d = c .before .before in
+    rw (d .ended2 .given .1) (more-left (now (d .before .before .args .text)) _ (c .if1 .left))
 
 pub then-end-spec : {M : Type 1} → statement M
 then-end-spec =

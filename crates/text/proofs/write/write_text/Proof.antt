@@ -1,7 +1,7 @@
 use mathlib.Core.Path.{sym, _∙_}
 use denote.Ref.{now}
 use Rattle.tables.specs.Tables.{Tables, lent}
-use Rattle.text.specs.Sizes.{Fit}
+use Rattle.text.specs.Sizes.{TablesFit}
 use Rattle.text.proofs.WriteLaws.{sizes-fit, rows-ready, written-size, written-short, written-all}
 use borrow.Author.Needs.{needs}
 use native.Mathlib.Omega.{arith}
@@ -30,7 +30,7 @@ given s =
     let a = s .args in
     lent (a .start) (now (a .nodes)) (a .n) (now (a .edges)) (a .m) (now (a .refs)) (a .k)
 
-fit : (c : tie.Else1) → Fit (given (start (sized c)))
+fit : (c : tie.Else1) → TablesFit (given (start (sized c)))
 fit c = sizes-fit (sized c .judge-sizes .ensures) (sym (c .before .refuses .ensures) ∙ c .if1 .left)
 
 judge-sizes-requires : tie.Need-judge-sizes-requires
