@@ -1,60 +1,46 @@
--- Which codes each public call can give, and what it is to give each exactly under its condition.
---   containmentCodes   0, and the codes of a start, nodes and a containment table that break a rule; ruleCodes: those
---                      of references too
---   faultCodes         the codes of faults
---   checkCodes, snapshotCodes, repairCodes, writeCodes, readCodes   the codes of each call; snapshotOnly, repairOnly:
---                      those after the rules
---   WriteAnswers, ReadAnswers   the promise of the call allows an answer
---   Exactly            the numbers of what was returned have a code of the list, and are those of an answer exactly if
---                      that answer has this property
--- DEEP is in no list: proofs/CodeLaws.antt has that no input gets it. Assumes nothing.
+-- What the theorems say of the calls: the codes that each can give, exactly under their conditions, and the demands. DEEP
+-- is in no list: no input gets it. Assumes nothing.
 use mathlib.Core.Path.{_≡_}
 use mathlib.Core.Logic.{_↔_}
 use mathlib.Core.Bool.{true}
 use mathlib.Core.List.{List, [], _∷_, _++_, map}
-use Prim.Native.Nat.{ℕ}
+use Prim.Native.Nat.{ℕ, _*_, _≤_, _<_}
+use lib.ListN.{take}
 use Rattle.ground.specs.Lists.{isAmong}
+use Rattle.answers.specs.declared.Fault.{Fault}
+use Rattle.answers.specs.declared.Kind.the-variants.{Overlap, Gap, Outside, Cycle, Late, Dangling}
 use Rattle.answers.specs.declared.Answer.{Answer}
 use Rattle.answers.specs.declared.Answer.the-variants.{Size, Start, Node, Edge, Reference, Room, Tie, Early, Text}
 use Rattle.answers.specs.declared.Answer.the-variants.{TextRoom}
 use Rattle.answers.specs.Numbers.{codeOf, numbers, passed}
-use Rattle.answers.specs.Refusals.{kinds, shownKinds}
-use Rattle.text.specs.declared.read.Reading.{Reading as TextReading}
-use Rattle.tables.specs.Tables.{Tables}
-use Rattle.text.specs.Answers.{Written, Read}
+use Rattle.tables.specs.Tables.{Now, nodeWidth, edgeWidth, refWidth, Tables}
+use Rattle.history.specs.Faults.{History, Holds, First}
+use Rattle.history.specs.Sound.{Sound}
+use Rattle.text.specs.declared.read.TextReading.{TextReading}
+use Rattle.text.specs.Answers.{Read}
 use Rattle.bindlewort.specs.declared.Answered.{Answered}
-use Rattle.bindlewort.specs.Given.{told}
+use Rattle.bindlewort.specs.declared.Reading.{Reading}
+use Rattle.bindlewort.specs.Given.{slices, Told, Retold, Given}
 
 -- the codes of answers, whatever their instants and places
 abbrev codesOf : List Answer → List ℕ
-codesOf xs = map (λ a. numbers a .code) xs
-
-abbrev pub containmentCodes : List ℕ
-containmentCodes = codesOf (passed ∷ Size 0 ∷ Start ∷ Node 0 ∷ Edge 0 ∷ [])
+codesOf = map (λ a. numbers a .code)
 
 abbrev pub ruleCodes : List ℕ
-ruleCodes = containmentCodes ++ codesOf (Reference 0 ∷ [])
-
-abbrev pub faultCodes : List ℕ
-faultCodes = map codeOf kinds
+ruleCodes = codesOf (passed ∷ Size 0 ∷ Start ∷ Node 0 ∷ Edge 0 ∷ Reference 0 ∷ [])
 
 -- [01:What the calls answer] "Check: 1, 2, 3, 4, 5, then faults."
 abbrev pub checkCodes : List ℕ
-checkCodes = ruleCodes ++ faultCodes
+checkCodes = ruleCodes ++ map codeOf (Overlap ∷ Gap ∷ Outside ∷ Cycle ∷ Late ∷ Dangling ∷ [])
 
 -- "Snapshot at t: 1 to 5 in order, 23, then the fault at t .. with GAP set aside, 24, 21"
-abbrev pub snapshotOnly : List ℕ
-snapshotOnly = codesOf (Early 0 ∷ Room 0 0 ∷ []) ++ map codeOf shownKinds
-
 abbrev pub snapshotCodes : List ℕ
-snapshotCodes = ruleCodes ++ snapshotOnly
+snapshotCodes =
+    ruleCodes ++ (codesOf (Early 0 ∷ Room 0 0 ∷ []) ++ map codeOf (Overlap ∷ Outside ∷ Cycle ∷ Late ∷ Dangling ∷ []))
 
 -- "Repair ..: 1 to 4 in order, then 22"
-abbrev pub repairOnly : List ℕ
-repairOnly = codesOf (Tie 0 0 ∷ [])
-
 abbrev pub repairCodes : List ℕ
-repairCodes = containmentCodes ++ repairOnly
+repairCodes = codesOf (passed ∷ Size 0 ∷ Start ∷ Node 0 ∷ Edge 0 ∷ Tie 0 0 ∷ [])
 
 -- "Write text ..: 1, then 32."
 abbrev pub writeCodes : List ℕ
@@ -64,14 +50,34 @@ writeCodes = codesOf (passed ∷ Size 0 ∷ TextRoom 0 ∷ [])
 abbrev pub readCodes : List ℕ
 readCodes = codesOf (passed ∷ Text 0 ∷ Room 0 0 ∷ [])
 
-abbrev pub WriteAnswers : Tables → List ℕ → Answer → Type 0
-WriteAnswers t out a = (out′ : List ℕ) × Written t out a out′
+-- an answer that was returned is promised with what was left; read text leaves three tables
+abbrev pub Leaves : (Answer → List ℕ → Type 0) → Answered → List ℕ → Type 0
+Leaves P r left = Given Told (λ a. P a left) r
 
-abbrev pub ReadAnswers : List ℕ → List ℕ → List ℕ → List ℕ → Answer → Type 0
-ReadAnswers s n e f a =
-    (x : TextReading) × (n′ : List ℕ) × (e′ : List ℕ) × (f′ : List ℕ) × Read s n e f x n′ e′ f′ × (x .answer ≡ a)
+abbrev pub Reads : List ℕ → List ℕ → List ℕ → List ℕ → Reading → List ℕ → List ℕ → List ℕ → Type 0
+Reads s n e f r n′ e′ f′ = Given Retold (λ x. Read s n e f x n′ e′ f′) r
+
+-- a promise allows an answer, whatever is left
+abbrev pub Allows : {B : Type 0} → (Answer → B → Type 0) → Answer → Type 0
+Allows {B} P a = (left : B) × P a left
+
+abbrev pub ReadAnswer : List ℕ → List ℕ → List ℕ → List ℕ → Answer → TextReading × List ℕ × List ℕ × List ℕ → Type 0
+ReadAnswer s n e f a (x, n′, e′, f′) = Read s n e f x n′ e′ f′ × (x .answer ≡ a)
 
 -- [01:What the calls answer] "Each is given exactly under its condition"
 pub record Exactly (codes : List ℕ) (P : Answer → Type 0) (r : Answered) : Type 0 where
   pub among : isAmong codes (r .code) ≡ true
-  pub exact : (a : Answer) → (told r ≡ numbers a) ↔ P a
+  pub exact : (a : Answer) → Told a r ↔ P a
+
+-- [demand 3] "at every instant from 0 to Now"
+abbrev pub AllSound : History → Type 0
+AllSound H = (t : ℕ) → t ≤ Now → Sound H t
+
+-- [demand 3] "the earliest instant at which this fails, with the kind and place that the rules fix"
+abbrev pub FirstUnsound : History → ℕ → Fault → Type 0
+FirstUnsound H t f = (t ≤ Now) × (Sound H t → ⊥) × ((s : ℕ) → s < t → Sound H s) × First (Holds H t) f
+
+-- the slices that a caller of read text finds at the fronts of what was lent, by the start and the counts returned
+abbrev pub found : Reading → List ℕ → List ℕ → List ℕ → Tables
+found r n e f =
+    slices (r .start) (take (r .nodes * nodeWidth) n) (take (r .edges * edgeWidth) e) (take (r .refs * refWidth) f)

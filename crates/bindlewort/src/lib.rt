@@ -1,14 +1,11 @@
-// The public calls. None has a `requires`: each takes tables, numbers and text of every kind, does its own checking and
-// ends with one answer of the list. Each promise determines the answer and every number and byte then held by what was
-// lent, on refusals too.
-ghost use mathlib.Core.Path.{_≡_};
+// The public calls. None has a `requires`, and each promise determines the answer and every number and byte then held
+// by what was lent, on refusals too.
 ghost use mathlib.Core.List.{[]};
-ghost use Rattle.answers.specs.Numbers.{numbers};
 ghost use Rattle.verdict.specs.Checked.{Checked};
-ghost use Rattle.snapshot.specs.Answers.{Snapshot};
-ghost use Rattle.repair.specs.Answers.{Repaired};
+ghost use Rattle.snapshot.specs.Snapshot.{Snapshot};
+ghost use Rattle.repair.specs.Repaired.{Repaired};
 ghost use Rattle.text.specs.Answers.{Written, Read};
-ghost use Rattle.bindlewort.specs.Given.{slices, told, Told, Retold, Given};
+ghost use Rattle.bindlewort.specs.Given.{slices, Told, Retold, Given};
 use answers::Answer;
 use tables::rows::EDGE_WIDTH;
 use tables::rows::NODE_WIDTH;
@@ -33,7 +30,7 @@ pub struct Reading {
 }
 
 fn tell(a: Answer) -> Answered
-    ensures { λ r. ⌜ told r ≡ numbers a ⌝ }
+    ensures { λ r. ⌜ Told a r ⌝ }
 {
     Answered {
         code: a.code(),

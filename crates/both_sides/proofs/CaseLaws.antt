@@ -1,6 +1,7 @@
 -- What a comparison tells.
 --   answered-same   two answers are the same if their numbers are
 --   differs         where two things differ, `false` says so
+--   report-counted  what a report counts
 --   check-counted, snapshot-counted, repair-counted   a call's outcome is compared with what is stated: since its
 --                   promise allows one outcome alone, it allows what is stated exactly where the two are the same
 --   Filled          of a table, i numbers are those of a root and elements: filled-start, filled-step
@@ -16,10 +17,11 @@ use lib.Seq.{getD-set-same, getD-set-other}
 use borrow.Author.Count.{below-more}
 use Rattle.tables.specs.Tables.{Tables}
 use Rattle.verdict.specs.Checked.{Checked}
-use Rattle.snapshot.specs.Answers.{Snapshot}
-use Rattle.repair.specs.Answers.{Repaired}
+use Rattle.snapshot.specs.Snapshot.{Snapshot}
+use Rattle.repair.specs.Repaired.{Repaired}
 use Rattle.bindlewort.specs.declared.Answered.{Answered}
 use Rattle.bindlewort.specs.Given.{Told, Given}
+use Rattle.bindlewort.specs.Codes.{Leaves}
 use Rattle.bindlewort.proofs.Demands.{check-unique, snapshot-unique, repair-unique}
 use Rattle.both_sides.specs.Cases.{Counted, elements}
 
@@ -34,6 +36,12 @@ counted true w = record { most = omega arith; one = (λ e. w .0 refl, λ p. refl
 counted false w =
     record { most = omega arith; one = (λ e. absurd (omega arith), λ p. absurd (false≢true (w .1 p))) }
 
+pub report-counted : {P : Type 0} {t : Bool} {r : ℕ} → r ≡ cond t 1 0 → (t ≡ true) ↔ P → Counted P r
+report-counted {P} {t} e w = subst (Counted P) (sym e) (counted t w)
+
+pub counts-one : {P : Type 0} {r : ℕ} → r ≡ 1 → P → Counted P r
+counts-one e p = record { most = omega arith; one = (λ _. p, λ _. e) }
+
 -- a promise G that allows one outcome alone
 module _ {A : Type 0} (G : Answered → A → Type 0)
     (outcome : (a b : Answered) (u v : A) → G a u → G b v → (a ≡ b) × (u ≡ v)) where
@@ -43,9 +51,7 @@ module _ {A : Type 0} (G : Answered → A → Type 0)
   case-counted : {a b : Answered} {u v : A} {t : Bool} {r : ℕ} → G a u → (t ≡ true) ↔ ((a ≡ b) × (u ≡ v))
       → r ≡ cond t 1 0
       → Counted (G b v) r
-  case-counted {b} {v} {t} g w e =
-      let k = allowed g in
-      subst (Counted (G b v)) (sym e) (counted t (λ z. k .0 (w .0 z), λ z. w .1 (k .1 z)))
+  case-counted g w e = let k = allowed g in report-counted e (λ z. k .0 (w .0 z), λ z. w .1 (k .1 z))
 
 module _ {L : Tables} {a b : Answered} {k : Bool} {r : ℕ} (counts : r ≡ cond k 1 0) where
   pub check-counted : Given Told (Checked L) a → (k ≡ true) ↔ (a ≡ b) → Counted (Given Told (Checked L) b) r
@@ -54,17 +60,14 @@ module _ {L : Tables} {a b : Answered} {k : Bool} {r : ℕ} (counts : r ≡ cond
       (λ x y u v p q. (check-unique L x p y q, refl)) {u = tt} {v = tt} g
       (λ e. (w .0 e, refl), λ e. w .1 (e .0)) counts
 
-  pub snapshot-counted : {before u v : List ℕ} {t : ℕ} → Given Told (λ x. Snapshot L t before x u) a
-      → (k ≡ true) ↔ ((a ≡ b) × (u ≡ v)) → Counted (Given Told (λ x. Snapshot L t before x v) b) r
+  pub snapshot-counted : {before u v : List ℕ} {t : ℕ} → Leaves (Snapshot L t before) a u
+      → (k ≡ true) ↔ ((a ≡ b) × (u ≡ v)) → Counted (Leaves (Snapshot L t before) b v) r
   snapshot-counted {before} {t} g w =
-      case-counted (λ x after. Given Told (λ y. Snapshot L t before y after) x)
-      (λ x y u v p q. snapshot-unique L t before x u p y v q) g w counts
+      case-counted (Leaves (Snapshot L t before)) (λ x y u v p q. snapshot-unique L t before x u p y v q) g w counts
 
-  pub repair-counted : {u v : List ℕ} → Given Told (λ x. Repaired L x u) a
-      → (k ≡ true) ↔ ((a ≡ b) × (u ≡ v)) → Counted (Given Told (λ x. Repaired L x v) b) r
-  repair-counted g w =
-      case-counted (λ x left. Given Told (λ y. Repaired L y left) x)
-      (λ x y u v p q. repair-unique L x u p y v q) g w counts
+  pub repair-counted : {u v : List ℕ} → Leaves (Repaired L) a u → (k ≡ true) ↔ ((a ≡ b) × (u ≡ v))
+      → Counted (Leaves (Repaired L) b v) r
+  repair-counted g w = case-counted (Leaves (Repaired L)) (λ x y u v p q. repair-unique L x u p y v q) g w counts
 
 -- before turn i, the table is as long as it was, and each number below i is an element's
 pub record Filled (before nodes : List ℕ) (i : ℕ) : Type 0 where

@@ -4,20 +4,27 @@ ghost use mathlib.Core.Path.{_≡_};
 ghost use mathlib.Core.Bool.{true, cond};
 ghost use mathlib.Core.Logic.{_↔_};
 ghost use mathlib.Core.List.{[]};
-ghost use Prim.Native.Nat.{ℕ, _≤_, _<_};
-ghost use lib.ListN.{length, getD, replicate};
+ghost use Prim.Native.Nat.{ℕ, _*_, _≤_, _<_};
+ghost use lib.ListN.{length, getD, take, replicate};
 ghost use Rattle.verdict.specs.Checked.{Checked};
-ghost use Rattle.snapshot.specs.Answers.{Snapshot};
-ghost use Rattle.repair.specs.Answers.{Repaired};
+ghost use Rattle.snapshot.specs.Snapshot.{Snapshot};
+ghost use Rattle.repair.specs.Repaired.{Repaired};
 ghost use Rattle.bindlewort.specs.Given.{slices, Told, Given};
-ghost use Rattle.both_sides.specs.Cases.{Counted, elements};
+ghost use Rattle.both_sides.specs.Cases.{Counted, OfForm, Writable, elements};
 use bindlewort::Answered;
 use bindlewort::bw_check;
 use bindlewort::bw_read_text;
 use bindlewort::bw_repair;
 use bindlewort::bw_snapshot;
+use bindlewort::bw_write_text;
+use check::same as same_bytes;
 use libc::STDOUT_FILENO;
+use tables::rows::EDGE_WIDTH;
 use tables::rows::NODE_WIDTH;
+use tables::rows::REF_WIDTH;
+use tables::sizes::MOST_EDGES;
+use tables::sizes::MOST_NODES;
+use tables::sizes::MOST_REFS;
 
 // The document's N.
 const N: u32 = 4294967295;
@@ -136,6 +143,65 @@ fn repair_is(case: &[u8], nodes: &[u32], edges: &mut [u32], stated: Answered, le
     report(a, same(a, stated, edges, left))
 }
 
+// So many rows at the front of a table.
+fn first_rows(table: &[u32], count: u32, width: usize) -> &[u32]
+    requires { ⌜ count * width ≤ length (now table) ⌝ }
+    ensures { λ r. ⌜ now r ≡ take (count * width) (now (table .entry)) ⌝ }
+{
+    let n = count as usize * width;
+    &table[..n]
+}
+
+fn same_rows(table: &[u32], count: u32, width: usize, rows: &[u32]) -> bool
+    requires { ⌜ count * width ≤ length (now table) ⌝ }
+    ensures { λ r. ⌜ (r ≡ true) ↔ (take (count * width) (now (table .entry)) ≡ now (rows .entry)) ⌝ }
+{
+    same_numbers(first_rows(table, count, width), rows)
+}
+
+// Reads a text, writes again what was read, and compares: a text is counted exactly if it is of the form. The tables
+// have room for all that can be read.
+fn read_is_written(text: &[u8], out: &mut [u8]) -> u32
+    requires { ⌜ length (now text) ≤ length (now out) ⌝ }
+    ensures { λ r. ⌜ Counted (OfForm (now (text .entry))) r ⌝ }
+{
+    let mut nodes = [0u32; MOST_NODES * NODE_WIDTH];
+    let mut edges = [0u32; MOST_EDGES * EDGE_WIDTH];
+    let mut refs = [0u32; MOST_REFS * REF_WIDTH];
+    let x = bw_read_text(text, &mut nodes, &mut edges, &mut refs);
+    let said = x.answer;
+    if said.code != 0 {
+        return report(said, false);
+    }
+    let a = first_rows(&nodes, x.nodes, NODE_WIDTH);
+    let b = first_rows(&edges, x.edges, EDGE_WIDTH);
+    let c = first_rows(&refs, x.refs, REF_WIDTH);
+    let w = bw_write_text(x.start, a, b, c, out);
+    let n = w.place as usize;
+    report(w, same_bytes(&out[..n], text))
+}
+
+// Writes tables as text, reads that back, and compares: tables are counted exactly if they are within the sizes and the
+// output has room for their text.
+fn written_is_read(start: u32, nodes: &[u32], edges: &[u32], refs: &[u32], out: &mut [u8]) -> u32
+    ensures { λ r. ⌜ Counted (Writable (slices start (now (nodes .entry)) (now (edges .entry)) (now (refs .entry)))
+        (now (out .entry))) r ⌝ }
+{
+    let mut n = [0u32; MOST_NODES * NODE_WIDTH];
+    let mut e = [0u32; MOST_EDGES * EDGE_WIDTH];
+    let mut f = [0u32; MOST_REFS * REF_WIDTH];
+    let w = bw_write_text(start, nodes, edges, refs, out);
+    if w.code != 0 {
+        return report(w, false);
+    }
+    let k = w.place as usize;
+    let x = bw_read_text(&out[..k], &mut n, &mut e, &mut f);
+    let back = same_rows(&n, x.nodes, NODE_WIDTH, nodes)
+        & same_rows(&e, x.edges, EDGE_WIDTH, edges)
+        & same_rows(&f, x.refs, REF_WIDTH, refs);
+    report(x.answer, (x.start == start) & back)
+}
+
 // "At 100: 16. At 121: the same three."
 fn snapshots_of_h(nodes: &[u32], edges: &[u32], refs: &[u32]) -> u32
     ensures { λ r. ⌜ r ≤ 2 ⌝ }
@@ -147,9 +213,21 @@ fn snapshots_of_h(nodes: &[u32], edges: &[u32], refs: &[u32]) -> u32
         + snapshot_is(b"H", 0, nodes, edges, refs, 121, shown, &same_three)
 }
 
+// [demand 2] "Tables written as text read back as the same tables, and accepted text written again is the same text."
+fn texts_of_h(text: &[u8], nodes: &[u32], edges: &[u32], refs: &[u32]) -> u32
+    requires { ⌜ length (now text) ≤ 512 ⌝ }
+    ensures { λ r. ⌜ r ≤ 2 ⌝ }
+{
+    let mut out = [0u8; 512];
+    io::write_all(STDOUT_FILENO, b"H, read and written again");
+    let again = read_is_written(text, &mut out);
+    io::write_all(STDOUT_FILENO, b"H, written and read back");
+    again + written_is_read(0, nodes, edges, refs, &mut out)
+}
+
 // The cases of H, whose tables are read from the document's text. "Repair of H: place 0."
 fn of_h() -> u32
-    ensures { λ r. ⌜ r ≤ 3 ⌝ }
+    ensures { λ r. ⌜ r ≤ 5 ⌝ }
 {
     let text = b"edition=1\nstart=0\nnodes=6\nedges=6\nrefs=1\n\
         node=0,1,0\nnode=1,2,0\nnode=1,2,0\nnode=1,3,0\nnode=1,4,0\nnode=4,5,0\n\
@@ -161,7 +239,9 @@ fn of_h() -> u32
     bw_read_text(text, &mut nodes, &mut edges, &mut refs);
     let mut mended = edges;
     let unchanged = answered(0, 0, 0);
-    snapshots_of_h(&nodes, &edges, &refs) + repair_is(b"H", &nodes, &mut mended, unchanged, &edges)
+    snapshots_of_h(&nodes, &edges, &refs)
+        + repair_is(b"H", &nodes, &mut mended, unchanged, &edges)
+        + texts_of_h(text, &nodes, &edges, &refs)
 }
 
 // "Root alone with start 7, snapshot at 6: 23. At 7: 0, one row."
@@ -241,5 +321,5 @@ fn of_sizes() -> u32
 fn main() {
     let n = of_h() + of_the_root_alone() + of_labels() + of_sizes();
     io::print_decimal(STDOUT_FILENO, n as u64);
-    io::write_all(STDOUT_FILENO, b" of 9 cases are as stated\n");
+    io::write_all(STDOUT_FILENO, b" of 11 cases are as stated\n");
 }
