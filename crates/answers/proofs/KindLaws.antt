@@ -57,8 +57,8 @@ every-kind p f k =
 abbrev pub isIn : Kind → List Kind → Bool
 isIn k ks = isAmong (map codeOf ks) (codeOf k)
 
-pub listed : (k : Kind) → isIn k kinds ≡ true
-listed = every-kind (λ k. isIn k kinds) refl
+pub kind-listed : (k : Kind) → isIn k kinds ≡ true
+kind-listed = every-kind (λ k. isIn k kinds) refl
 
 pub in-here : (k : Kind) (ks : List Kind) → isIn k (k ∷ ks) ≡ true
 in-here k ks = rw (eq-eqb (codeOf k) (codeOf k) refl)

@@ -1,9 +1,9 @@
 -- The marks that the walks up leave on the nodes, a walk's being its start plus 1. Only the walk's own functions speak
 -- of them.
---   RunsOut              the walk up from b leaves the nodes
+--   RunsOut           the walk up from b leaves the nodes
 --   NoBack, SomeBack  no node comes back to itself; one does
 --   Done              after the walks from the nodes below start: whatever is marked has a walk up that ends
---   MarksStay              no mark is lost
+--   MarksStay         no mark is lost
 --   Marked            what a whole walk from start gives
 -- Assumes nothing.
 use mathlib.Core.Path.{_≡_}

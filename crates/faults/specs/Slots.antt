@@ -4,7 +4,7 @@
 --   Slots      every slot of a list says it of the rows that lead into its node, with their parents
 --   Taking     row i can be taken into the slots of the rows before it
 --   Fit        a table has m containment rows, and their nodes are below n
---   BlankSlots      slots that no row has changed, for the nodes of m rows
+--   BlankSlots slots that no row has changed, for the nodes of m rows
 --   Fresh      slots for n nodes, and all of them noNode
 -- Assumes nothing.
 use mathlib.Core.Path.{_≡_}

@@ -18,32 +18,32 @@ use Rattle.answers.specs.declared.Answer.{Answer}
 use Rattle.answers.specs.declared.Answer.the-variants.{Faulty}
 use Rattle.answers.specs.Numbers.{codeOf, refuses, passed}
 use Rattle.answers.specs.Refusals.{kinds, shownKinds, fault}
-use Rattle.answers.proofs.KindLaws.{code-unique, every-kind, isIn, listed, in-here, in-more, in-cases, every-in, rises}
+use Rattle.answers.proofs.KindLaws.{code-unique, every-kind, isIn, kind-listed, in-here, in-more, in-cases, every-in, rises}
 use Rattle.answers.proofs.KindLaws.{rises-first, rises-rest}
 use Rattle.answers.proofs.AnswerLaws.{faulty-refuses, first-refuses, first-passes}
 use Rattle.history.specs.Faults.{History, HoldsAt, Holds, Ahead, Shown}
 use Rattle.history.specs.Ruled.{Ruled}
 use Rattle.history.specs.Places.{places, Names, none, first}
-use Rattle.history.specs.Computed.{holds, line, say, faultsSay, shownSay}
+use Rattle.history.specs.Computed.{holds, lineSays, say, faultsSay, shownSay}
 use Rattle.history.proofs.LineLaws.{lawful}
 
 -- one line, by its least place: it is the answer, or the lines after it are
 module _ (H : History) (t : ℕ) (k : Kind) {p : ℕ} (e : p ≡ least (holds H t k) (places H k)) where
-  line-found : p < places H k → line H t k ≡ Faulty t (fault k p)
+  line-found : p < places H k → lineSays H t k ≡ Faulty t (fault k p)
   line-found h = rw (← e, lt-ltb p (places H k) h)
 
-  line-none : places H k ≤ p → line H t k ≡ passed
+  line-none : places H k ≤ p → lineSays H t k ≡ passed
   line-none h = rw (← e, le-ltb p (places H k) h)
 
   pub say-found : (ks : List Kind) → p < places H k → Faulty t (fault k p) ≡ say H t (k ∷ ks)
   unfolding say
   say-found ks h =
       let l = line-found h in
-      sym (first-refuses (line H t k) (say H t ks) (ap (λ a. refuses a) l ∙ faulty-refuses t (fault k p)) ∙ l)
+      sym (first-refuses (lineSays H t k) (say H t ks) (ap (λ a. refuses a) l ∙ faulty-refuses t (fault k p)) ∙ l)
 
   pub say-on : (ks : List Kind) → places H k ≤ p → {a : Answer} → a ≡ say H t ks → a ≡ say H t (k ∷ ks)
   unfolding say
-  say-on ks h q = q ∙ sym (first-passes (line H t k) (say H t ks) (ap (λ a. refuses a) (line-none h)))
+  say-on ks h q = q ∙ sym (first-passes (lineSays H t k) (say H t ks) (ap (λ a. refuses a) (line-none h)))
 
 -- line after line, of kinds whose codes rise: of faults with a property that all faults of these kinds have, and no
 -- others, the first is named
@@ -95,7 +95,7 @@ module _ (H : History) (t : ℕ) (r : Ruled H) (F : Fault → Type 0) (from : (f
 
 module _ (H : History) (t : ℕ) (r : Ruled H) where
   pub faults-named : Names (Holds H t) t (faultsSay H t)
-  faults-named = named H t r (Holds H t) (λ f x. x) kinds refl (λ k i p x. x) (λ f x. listed (f .kind))
+  faults-named = named H t r (Holds H t) (λ f x. x) kinds refl (λ k i p x. x) (λ f x. kind-listed (f .kind))
 
   pub shown-named : Names (Shown H t) t (shownSay H t)
   shown-named =

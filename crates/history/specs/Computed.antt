@@ -5,10 +5,10 @@
 --   isPresent, isHere    n is present; in a history
 --   reaches              a chain of at most k rows leads from one node to another
 --   overlaps, hasGap, isOutside, cycles   the lines of the table that are of nodes
---   isReferring               reference row k is in force
+--   isReferring          reference row k is in force
 --   isAstray             reference row k is in force, and the node at one of its ends is not present
 --   holds                the table: a fault of a kind holds at t, at a place
---   line                 a line of the table as an answer, with its smallest place; say: line after line
+--   lineSays             a line of the table as an answer, with its smallest place; say: line after line
 --   faultsSay            the first fault at t as an answer; shownSay: with GAP set aside
 --   turns                the instants at which labels start, and those past their ends
 --   instants             the change instants, listed
@@ -93,12 +93,12 @@ module _ (H : History) (t : ℕ) where
   holds Dangling = isAstray Target
 
   -- one line of the table: its smallest place
-  abbrev pub line : Kind → Answer
-  line k = smallest (λ p. Faulty t (fault k p)) (holds k) (places H k)
+  abbrev pub lineSays : Kind → Answer
+  lineSays k = smallest (λ p. Faulty t (fault k p)) (holds k) (places H k)
 
   unfoldable pub say : List Kind → Answer
   say [] = passed
-  say (k ∷ ks) = line k ⨾ say ks
+  say (k ∷ ks) = lineSays k ⨾ say ks
 
   abbrev pub faultsSay : Answer
   faultsSay = say kinds
