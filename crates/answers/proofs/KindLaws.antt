@@ -10,12 +10,12 @@ use mathlib.Core.List.{List, [], _∷_, map}
 use Prim.Native.Nat.{ℕ, _<_}
 use lib.Dec.{eqb, ltb}
 use borrow.Author.Tests.{eqb-true, ltb-true, eq-eqb}
-use Rattle.ground.specs.Lists.{isAmong}
+use Rattle.ground.specs.Among.{isAmong}
 use Rattle.ground.proofs.TestLaws.{by-test, both}
 use Rattle.answers.specs.declared.Kind.{Kind}
 use Rattle.answers.specs.declared.Kind.the-variants.{Overlap, Gap, Outside, Cycle, Late, Dangling}
 use Rattle.answers.specs.Numbers.{codeOf}
-use Rattle.answers.specs.Refusals.{kinds}
+use Rattle.answers.specs.Kinds.{kinds}
 
 -- the first kind of a list that has a code, or k
 abbrev find : ℕ → Kind → List Kind → Kind

@@ -1,4 +1,4 @@
--- The paper's numbers, by cases on the answer: the only definition that has them. Assumes nothing.
+-- The numbers of document 01, by cases on the answer: the only definition that has them. Assumes nothing.
 use mathlib.Core.Bool.{Bool, not}
 use Prim.Native.Nat.{ℕ}
 use lib.Dec.{eqb}

@@ -1,29 +1,14 @@
 -- Refusals in their order, computed.
---   kinds      the kinds of faults in the order of their codes; afterGap: those after GAP; shownKinds: those that
---              snapshot names
 --   fault      the fault of a kind at a place
 --   when t a   a where the test passes, else passed
 --   a ⨾ b      a where it refuses, else b. A row of these gives the first refusal that applies
 -- Assumes nothing.
 use mathlib.Core.Bool.{Bool, cond}
-use mathlib.Core.List.{List, [], _∷_}
 use Prim.Native.Nat.{ℕ}
 use Rattle.answers.specs.declared.Fault.{Fault}
 use Rattle.answers.specs.declared.Kind.{Kind}
-use Rattle.answers.specs.declared.Kind.the-variants.{Overlap, Gap, Outside, Cycle, Late, Dangling}
 use Rattle.answers.specs.declared.Answer.{Answer}
 use Rattle.answers.specs.Numbers.{passed, refuses}
-
-abbrev pub afterGap : List Kind
-afterGap = Outside ∷ Cycle ∷ Late ∷ Dangling ∷ []
-
--- the kinds in the order of their codes
-abbrev pub kinds : List Kind
-kinds = Overlap ∷ Gap ∷ afterGap
-
--- [01:What the calls answer] Snapshot: "with GAP set aside"
-abbrev pub shownKinds : List Kind
-shownKinds = Overlap ∷ afterGap
 
 abbrev pub fault : Kind → ℕ → Fault
 fault k p = record { kind = k; place = p }

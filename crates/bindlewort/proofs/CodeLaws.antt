@@ -7,7 +7,7 @@ use native.Mathlib.Omega.{arith}
 use lib.Dec.{eqb}
 use lib.ListN.{length, drop}
 use borrow.Author.Tests.{ne-eqb}
-use Rattle.ground.specs.Lists.{isAmong}
+use Rattle.ground.specs.Among.{isAmong}
 use Rattle.answers.specs.declared.Fault.{Fault}
 use Rattle.answers.specs.declared.Kind.the-variants.{Gap}
 use Rattle.answers.specs.declared.Answer.{Answer}
@@ -15,7 +15,7 @@ use Rattle.answers.specs.Numbers.{codeOf, numbers}
 use Rattle.answers.proofs.KindLaws.{every-kind}
 use Rattle.tables.specs.Tables.{Table, Tables, table}
 use Rattle.tables.specs.Rules.{Gives, nodes-size, edges-size, refs-size, start-now, node, edge, reference, nothing}
-use Rattle.history.specs.Faults.{History, held, Shown, accepted, refused}
+use Rattle.history.specs.Faults.{History, held, GapAside, accepted, refused}
 use Rattle.verdict.specs.Checked.{Checked, ruled-out, judged}
 use Rattle.snapshot.specs.Snapshot.{Unready, ruled-out as unready-ruled-out, early, faulty, deep, Snapshot, unready}
 use Rattle.snapshot.specs.Snapshot.{short, shows}
@@ -50,7 +50,7 @@ check-among (ruled-out g t) = gives-among (drop (length ruleCodes) checkCodes) g
 check-among (judged o (accepted n)) = refl
 check-among (judged o (refused {f = f} x)) = fault-among f
 
-shown-among : (H : History) (t : ℕ) (f : Fault) → Shown H t f → isAmong snapshotCodes (codeOf (f .kind)) ≡ true
+shown-among : (H : History) (t : ℕ) (f : Fault) → GapAside H t f → isAmong snapshotCodes (codeOf (f .kind)) ≡ true
 shown-among H t f x =
     let e = ne-eqb (codeOf (f .kind)) (codeOf Gap) (x .1) in
     rw e at (every-kind (λ k. eqb (codeOf k) (codeOf Gap) || isAmong snapshotCodes (codeOf k)) refl (f .kind))

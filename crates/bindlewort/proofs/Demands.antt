@@ -5,15 +5,16 @@ use mathlib.Core.Logic.{_≢_, _↔_}
 use mathlib.Core.List.{List, []}
 use Prim.Native.Nat.{ℕ, _≤_}
 use lib.ListN.{length, take}
-use Rattle.ground.specs.Lists.{front, All}
+use Rattle.ground.specs.Lists.{front}
+use Rattle.ground.specs.Among.{All}
 use Rattle.answers.specs.declared.Fault.{Fault}
-use Rattle.answers.specs.declared.Answer.{Answer}
 use Rattle.answers.specs.declared.Answer.the-variants.{Done, Faulty}
 use Rattle.answers.specs.Numbers.{numbers, passed}
 use Rattle.tables.specs.Tables.{Now, edgeAt, Tables, table, edgeIn}
 use Rattle.tables.specs.Rules.{Obeys}
+use Rattle.history.specs.Sound.{AllSound, FirstUnsound}
 use Rattle.history.specs.Faults.{History, held, Verdict}
-use Rattle.history.specs.Document.{Document}
+use Rattle.history.specs.Document.{RootedTree, Document}
 use Rattle.history.proofs.RuledLaws.{obeys-ruled, held-ends}
 use Rattle.history.proofs.VerdictLaws.{accepted-document, accepted-sound}
 use Rattle.verdict.specs.Checked.{Checked, judged}
@@ -25,14 +26,14 @@ use Rattle.repair.specs.Stays.{Stay, OneLatest}
 use Rattle.repair.specs.Repaired.{Repaired}
 use Rattle.repair.proofs.Repaired.{repaired-unique, refused-frame as repaired-frame, done-one}
 use Rattle.text.specs.Text.{Small}
-use Rattle.text.specs.Answers.{Written, readingOf, Fits, Read}
+use Rattle.text.specs.Answers.{Written, readingOf, Fits}
 use Rattle.text.proofs.PromiseLaws.{write-unique as written-unique, write-frame as written-frame, read-written}
 use Rattle.text.proofs.PromiseLaws.{read-unique as taken-unique, read-frame as taken-frame, read-fronts, write-read}
 use Rattle.bindlewort.specs.declared.Answered.{Answered}
 use Rattle.bindlewort.specs.declared.Reading.{Reading}
-use Rattle.bindlewort.specs.Given.{Told, Retold, Given}
-use Rattle.bindlewort.specs.Codes.{checkCodes, snapshotCodes, repairCodes, writeCodes, readCodes, Leaves, Allows}
-use Rattle.bindlewort.specs.Codes.{ReadAnswer, Reads, found, Exactly, AllSound, FirstUnsound}
+use Rattle.bindlewort.specs.Given.{Told, Retold, Given, Leaves, Reads}
+use Rattle.bindlewort.specs.Codes.{checkCodes, snapshotCodes, repairCodes, writeCodes, readCodes, Allows}
+use Rattle.bindlewort.specs.Codes.{ReadAnswer, found, Exactly}
 use Rattle.bindlewort.specs.Cases.{Promised, cases}
 use Rattle.bindlewort.proofs.GivenLaws.{retold-same, retold-nothing, told-refuses, told-done, written-place}
 use Rattle.bindlewort.proofs.GivenLaws.{given-unique, given-exactly, leaves-exactly, leaves-frame, leaves-unique}
@@ -42,9 +43,10 @@ use Rattle.bindlewort.proofs.CodeLaws.{read-answer-unique}
 use Rattle.bindlewort.proofs.Starred.{starred}
 
 -- [demand 1] "Every public call takes tables, numbers and text of every kind, does its own checking and ends with one
--- answer from our list. A refused call leaves each table and buffer lent to it holding what it held before.": no call
--- has a `requires`; `-exactly`, where too [01:What the calls answer] "Each is given exactly under its condition";
--- `-frame`. [01:Strength of the promises] "two outcomes allowed by a contract coincide": `-unique`.
+-- answer from our list. A refused call leaves each table and buffer lent to it holding what it held before." No call
+-- has a `requires`, and the proof of a function is one of its ending too. `-exactly`: the code is on the call's list,
+-- and an answer is given exactly under its condition. `-frame`: a refused call leaves what it was lent. `-unique`:
+-- [01:Strength of the promises] "two outcomes allowed by a contract coincide".
 
 module _ (L : Tables) (r : Answered) (given : Given Told (Checked L) r) where
   pub check-exactly : Exactly checkCodes (Checked L) r
@@ -66,14 +68,15 @@ module _ (L : Tables) (t : ℕ) (before : List ℕ) (r : Answered) (after : List
   pub snapshot-unique : (q : Answered) (last : List ℕ) → Leaves (Snapshot L t before) q last → (r ≡ q) × (after ≡ last)
   snapshot-unique = leaves-unique (Snapshot L t before) r after given (λ a b u v. shown-unique L t)
 
-  -- [demand 2] "A snapshot shows exactly what was contained at its instant."
+  -- [demand 2] "Faults and snapshots agree with the Temporal XML Document of Rizzolo and Vaisman, as document 01 lays
+  -- it out. A snapshot shows exactly what was contained at its instant."
   pub snapshot-contained : r .code ≡ 0
-      → (xs : List ShownRow) × ShownRows (held L) t xs × Exact (held L) t xs × Told (Done t (length xs)) r
-      × (after ≡ front (shownNumbers xs) before)
+      → RootedTree (held L) t × ((xs : List ShownRow) × ShownRows (held L) t xs × Exact (held L) t xs
+      × Told (Done t (length xs)) r × (after ≡ front (shownNumbers xs) before))
   snapshot-contained z =
       let (a, s, e) = given in
-      let (xs, rows, exact, is, left) = contained L t s (told-done r a e z) in
-      (xs, rows, exact, e ∙ ap numbers is, left)
+      let (tree, (xs, rows, exact, is, left)) = contained L t s (told-done r a e z) in
+      (tree, (xs, rows, exact, e ∙ ap numbers is, left))
 
 module _ (L : Tables) (r : Answered) (left : List ℕ) (given : Leaves (Repaired L) r left) where
   -- repair is lent no references
@@ -127,7 +130,7 @@ module _ (s n e f : List ℕ) (r : Reading) (n′ e′ f′ : List ℕ) (given :
       (retold-same x r q g (rw same h), i, j, k)
 
 -- [demand 2] "Tables written as text read back as the same tables, and accepted text written again is the same text."
--- The tables are of 32-bit numbers, and the text is the bytes that were counted
+-- The tables are of 32-bit numbers, as every slice that is lent, and the text is the bytes that were counted
 module _ (t : Tables) (out : List ℕ) (r : Answered) (out′ : List ℕ) (given : Leaves (Written t out) r out′)
     (done : r .code ≡ 0) (start : t .start ≤ Now) (nodes : Small (t .nodes .numbers))
     (edges : Small (t .edges .numbers)) (refs : Small (t .refs .numbers)) where
@@ -179,7 +182,7 @@ module _ (L : Tables) (o : Obeys L) where
         (t, f, e ∙ ap numbers is, first)
 
     -- [demand 2] "Faults and snapshots agree with the Temporal XML Document of Rizzolo and Vaisman, as document 01 lays
-    -- it out.": tables of 32-bit numbers
+    -- it out." The ends of rows are 32-bit numbers, as in every slice that is lent
     pub check-document : Small (L .edges .numbers) → Told passed r ↔ Document H
     check-document small =
         let d = accepted-document H (obeys-ruled L o) (held-ends L small) in

@@ -8,7 +8,7 @@ use native.Mathlib.Nat.{mul-div-cancel}
 use native.Mathlib.Omega.{arith}
 use lib.ListN.{length}
 use borrow.Author.Tests.{eq-eqb, ne-eqb}
-use Rattle.ground.specs.Lists.{isAmong}
+use Rattle.ground.specs.Among.{isAmong}
 use Rattle.answers.specs.declared.Fault.{Fault}
 use Rattle.answers.specs.declared.Answer.{Answer}
 use Rattle.answers.specs.declared.Answer.the-variants.{Faulty}
@@ -16,17 +16,18 @@ use Rattle.answers.specs.Numbers.{Numbers, numbers, refuses}
 use Rattle.answers.proofs.AnswerLaws.{answer-unique}
 use Rattle.tables.specs.Tables.{nodeWidth, edgeWidth, refWidth, Table, Tables}
 use Rattle.tables.specs.Rules.{Whole}
+use Rattle.history.specs.Sound.{AllSound, FirstUnsound}
 use Rattle.history.specs.Faults.{History, Verdict, accepted, refused}
 use Rattle.history.specs.Ruled.{Ruled}
 use Rattle.history.proofs.VerdictLaws.{accepted-sound, refused-unsound}
 use Rattle.text.specs.declared.read.TextReading.{TextReading}
 use Rattle.text.specs.Text.{Lendable, textOf}
-use Rattle.text.specs.Answers.{Written, nothing, readingOf}
+use Rattle.text.specs.Answers.{Written, noTables, readingOf}
 use Rattle.text.proofs.PromiseLaws.{write-holds, fronts}
 use Rattle.bindlewort.specs.declared.Answered.{Answered}
 use Rattle.bindlewort.specs.declared.Reading.{Reading}
-use Rattle.bindlewort.specs.Given.{slices, Told, Retold, Given}
-use Rattle.bindlewort.specs.Codes.{Leaves, Allows, AllSound, FirstUnsound, found, Exactly}
+use Rattle.bindlewort.specs.Given.{slices, Told, Retold, Given, Leaves}
+use Rattle.bindlewort.specs.Codes.{Allows, found, Exactly}
 
 -- slices that hold just the rows of tables are these tables
 row-count : (w : ℕ) (x : Table) → 0 < w → Whole w x → length (x .numbers) / w ≡ x .count
@@ -61,7 +62,7 @@ retold-same x r q g h =
     }
 
 -- a reading that tells no start and no rows
-pub retold-nothing : {x : TextReading} {a : Answered} → x ≡ readingOf (x .answer) nothing → Told (x .answer) a
+pub retold-nothing : {x : TextReading} {a : Answered} → x ≡ readingOf (x .answer) noTables → Told (x .answer) a
     → Retold x (reading a 0 0 0 0)
 retold-nothing {x} {a} none e =
     record {

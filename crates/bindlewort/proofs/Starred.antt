@@ -6,7 +6,8 @@ use Prim.Native.Nat.{ℕ}
 use lib.ListN.{length}
 use Rattle.ground.specs.Searches.{any, least}
 use Rattle.ground.specs.Sums.{sum}
-use Rattle.ground.specs.Lists.{front, All}
+use Rattle.ground.specs.Lists.{front}
+use Rattle.ground.specs.Among.{All}
 use Rattle.answers.specs.declared.Answer.{Answer}
 use Rattle.answers.specs.Numbers.{Numbers, says, numbers}
 use Rattle.tables.specs.Tables.{nodeAt, edgeAt, refAt}

@@ -1,26 +1,24 @@
--- What the theorems say of the calls: the codes that each can give, exactly under their conditions, and the demands. DEEP
--- is in no list: no input gets it. Assumes nothing.
+-- What the theorems say of the calls: the codes that each can give, each exactly under its condition. DEEP is in no
+-- list: no input gets it. Assumes nothing.
 use mathlib.Core.Path.{_≡_}
 use mathlib.Core.Logic.{_↔_}
 use mathlib.Core.Bool.{true}
 use mathlib.Core.List.{List, [], _∷_, _++_, map}
 use Prim.Native.Nat.{ℕ, _*_, _≤_, _<_}
 use lib.ListN.{take}
-use Rattle.ground.specs.Lists.{isAmong}
+use Rattle.ground.specs.Among.{isAmong}
 use Rattle.answers.specs.declared.Fault.{Fault}
-use Rattle.answers.specs.declared.Kind.the-variants.{Overlap, Gap, Outside, Cycle, Late, Dangling}
 use Rattle.answers.specs.declared.Answer.{Answer}
 use Rattle.answers.specs.declared.Answer.the-variants.{Size, Start, Node, Edge, Reference, Room, Tie, Early, Text}
 use Rattle.answers.specs.declared.Answer.the-variants.{TextRoom}
 use Rattle.answers.specs.Numbers.{codeOf, numbers, passed}
-use Rattle.tables.specs.Tables.{Now, nodeWidth, edgeWidth, refWidth, Tables}
-use Rattle.history.specs.Faults.{History, Holds, First}
-use Rattle.history.specs.Sound.{Sound}
+use Rattle.answers.specs.Kinds.{kinds, shownKinds}
+use Rattle.tables.specs.Tables.{nodeWidth, edgeWidth, refWidth, Tables}
 use Rattle.text.specs.declared.read.TextReading.{TextReading}
 use Rattle.text.specs.Answers.{Read}
 use Rattle.bindlewort.specs.declared.Answered.{Answered}
 use Rattle.bindlewort.specs.declared.Reading.{Reading}
-use Rattle.bindlewort.specs.Given.{slices, Told, Retold, Given}
+use Rattle.bindlewort.specs.Given.{slices, Told}
 
 -- the codes of answers, whatever their instants and places
 abbrev codesOf : List Answer → List ℕ
@@ -31,31 +29,23 @@ ruleCodes = codesOf (passed ∷ Size 0 ∷ Start ∷ Node 0 ∷ Edge 0 ∷ Refer
 
 -- [01:What the calls answer] "Check: 1, 2, 3, 4, 5, then faults."
 abbrev pub checkCodes : List ℕ
-checkCodes = ruleCodes ++ map codeOf (Overlap ∷ Gap ∷ Outside ∷ Cycle ∷ Late ∷ Dangling ∷ [])
+checkCodes = ruleCodes ++ map codeOf kinds
 
--- "Snapshot at t: 1 to 5 in order, 23, then the fault at t .. with GAP set aside, 24, 21"
+-- [01:What the calls answer] "Snapshot at t: 1 to 5 in order, 23, then the fault at t .. with GAP set aside, 24, 21"
 abbrev pub snapshotCodes : List ℕ
-snapshotCodes =
-    ruleCodes ++ (codesOf (Early 0 ∷ Room 0 0 ∷ []) ++ map codeOf (Overlap ∷ Outside ∷ Cycle ∷ Late ∷ Dangling ∷ []))
+snapshotCodes = ruleCodes ++ (codesOf (Early 0 ∷ Room 0 0 ∷ []) ++ map codeOf shownKinds)
 
--- "Repair ..: 1 to 4 in order, then 22"
+-- [01:What the calls answer] "Repair ..: 1 to 4 in order, then 22"
 abbrev pub repairCodes : List ℕ
 repairCodes = codesOf (passed ∷ Size 0 ∷ Start ∷ Node 0 ∷ Edge 0 ∷ Tie 0 0 ∷ [])
 
--- "Write text ..: 1, then 32."
+-- [01:What the calls answer] "Write text ..: 1, then 32."
 abbrev pub writeCodes : List ℕ
 writeCodes = codesOf (passed ∷ Size 0 ∷ TextRoom 0 ∷ [])
 
--- "Read text: 31, then 21"
+-- [01:What the calls answer] "Read text: 31, then 21"
 abbrev pub readCodes : List ℕ
 readCodes = codesOf (passed ∷ Text 0 ∷ Room 0 0 ∷ [])
-
--- an answer that was returned is promised with what was left; read text leaves three tables
-abbrev pub Leaves : (Answer → List ℕ → Type 0) → Answered → List ℕ → Type 0
-Leaves P r left = Given Told (λ a. P a left) r
-
-abbrev pub Reads : List ℕ → List ℕ → List ℕ → List ℕ → Reading → List ℕ → List ℕ → List ℕ → Type 0
-Reads s n e f r n′ e′ f′ = Given Retold (λ x. Read s n e f x n′ e′ f′) r
 
 -- a promise allows an answer, whatever is left
 abbrev pub Allows : {B : Type 0} → (Answer → B → Type 0) → Answer → Type 0
@@ -68,14 +58,6 @@ ReadAnswer s n e f a (x, n′, e′, f′) = Read s n e f x n′ e′ f′ × (x
 pub record Exactly (codes : List ℕ) (P : Answer → Type 0) (r : Answered) : Type 0 where
   pub among : isAmong codes (r .code) ≡ true
   pub exact : (a : Answer) → Told a r ↔ P a
-
--- [demand 3] "at every instant from 0 to Now"
-abbrev pub AllSound : History → Type 0
-AllSound H = (t : ℕ) → t ≤ Now → Sound H t
-
--- [demand 3] "the earliest instant at which this fails, with the kind and place that the rules fix"
-abbrev pub FirstUnsound : History → ℕ → Fault → Type 0
-FirstUnsound H t f = (t ≤ Now) × (Sound H t → ⊥) × ((s : ℕ) → s < t → Sound H s) × First (Holds H t) f
 
 -- the slices that a caller of read text finds at the fronts of what was lent, by the start and the counts returned
 abbrev pub found : Reading → List ℕ → List ℕ → List ℕ → Tables

@@ -1,11 +1,11 @@
 // The public calls. None has a `requires`, and each promise determines the answer and every number and byte then held
-// by what was lent, on refusals too.
+// by what was lent, on refusals too (proofs/Demands.antt). What is lent by `&` cannot change.
 ghost use mathlib.Core.List.{[]};
 ghost use Rattle.verdict.specs.Checked.{Checked};
 ghost use Rattle.snapshot.specs.Snapshot.{Snapshot};
 ghost use Rattle.repair.specs.Repaired.{Repaired};
-ghost use Rattle.text.specs.Answers.{Written, Read};
-ghost use Rattle.bindlewort.specs.Given.{slices, Told, Retold, Given};
+ghost use Rattle.text.specs.Answers.{Written};
+ghost use Rattle.bindlewort.specs.Given.{slices, Told, Given, Leaves, Reads};
 use answers::Answer;
 use tables::rows::EDGE_WIDTH;
 use tables::rows::NODE_WIDTH;
@@ -39,7 +39,7 @@ fn tell(a: Answer) -> Answered
     }
 }
 
-// Check: the earliest instant with a fault, there the smallest code, and there the smallest place.
+// Check: codes 1 to 5, else the earliest instant with a fault, there the smallest code, and there the smallest place.
 #[no_mangle]
 pub extern "C" fn bw_check(start: u32, nodes: &[u32], edges: &[u32], refs: &[u32]) -> Answered
     ensures { λ r. ⌜ Given Told
@@ -61,9 +61,9 @@ pub extern "C" fn bw_snapshot(
     t: u32,
     out: &mut [u32],
 ) -> Answered
-    ensures { λ r. ⌜ Given Told (λ a. Snapshot
+    ensures { λ r. ⌜ Leaves (Snapshot
         (slices start (now (nodes .entry)) (now (edges .entry)) (now (refs .entry))) t
-        (now (out .entry)) a (now (out .exit))) r ⌝ }
+        (now (out .entry))) r (now (out .exit)) ⌝ }
 {
     let n = nodes.len() / NODE_WIDTH;
     let m = edges.len() / EDGE_WIDTH;
@@ -74,8 +74,8 @@ pub extern "C" fn bw_snapshot(
 // Repair: each child gets, from its first start to its last end, the parent of the row that started last.
 #[no_mangle]
 pub extern "C" fn bw_repair(start: u32, nodes: &[u32], edges: &mut [u32]) -> Answered
-    ensures { λ r. ⌜ Given Told (λ a. Repaired (slices start (now (nodes .entry)) (now (edges .entry)) []) a
-        (now (edges .exit))) r ⌝ }
+    ensures { λ r. ⌜ Leaves (Repaired (slices start (now (nodes .entry)) (now (edges .entry)) [])) r
+        (now (edges .exit)) ⌝ }
 {
     let n = nodes.len() / NODE_WIDTH;
     let m = edges.len() / EDGE_WIDTH;
@@ -91,9 +91,9 @@ pub extern "C" fn bw_write_text(
     refs: &[u32],
     out: &mut [u8],
 ) -> Answered
-    ensures { λ r. ⌜ Given Told (λ a. Written
+    ensures { λ r. ⌜ Leaves (Written
         (slices start (now (nodes .entry)) (now (edges .entry)) (now (refs .entry)))
-        (now (out .entry)) a (now (out .exit))) r ⌝ }
+        (now (out .entry))) r (now (out .exit)) ⌝ }
 {
     let n = nodes.len() / NODE_WIDTH;
     let m = edges.len() / EDGE_WIDTH;
@@ -109,8 +109,8 @@ pub extern "C" fn bw_read_text(
     edges: &mut [u32],
     refs: &mut [u32],
 ) -> Reading
-    ensures { λ r. ⌜ Given Retold (λ x. Read (now (text .entry)) (now (nodes .entry)) (now (edges .entry))
-        (now (refs .entry)) x (now (nodes .exit)) (now (edges .exit)) (now (refs .exit))) r ⌝ }
+    ensures { λ r. ⌜ Reads (now (text .entry)) (now (nodes .entry)) (now (edges .entry)) (now (refs .entry)) r
+        (now (nodes .exit)) (now (edges .exit)) (now (refs .exit)) ⌝ }
 {
     let x = text::read::read_text(text, nodes, edges, refs);
     let a = x.answer;

@@ -4,7 +4,7 @@
 --   report-counted  what a report counts
 --   check-counted, snapshot-counted, repair-counted   a call's outcome is compared with what is stated: since its
 --                   promise allows one outcome alone, it allows what is stated exactly where the two are the same
---   Filled          of a table, i numbers are those of a root and elements: filled-start, filled-step
+--   ElementsPut     of a table, i numbers are those of a root and elements: elements-start, elements-step
 -- Assumes nothing.
 use native.Mathlib.Omega.{arith}
 use mathlib.Core.Path.{_≡_, refl, sym, _∙_, subst}
@@ -20,8 +20,7 @@ use Rattle.verdict.specs.Checked.{Checked}
 use Rattle.snapshot.specs.Snapshot.{Snapshot}
 use Rattle.repair.specs.Repaired.{Repaired}
 use Rattle.bindlewort.specs.declared.Answered.{Answered}
-use Rattle.bindlewort.specs.Given.{Told, Given}
-use Rattle.bindlewort.specs.Codes.{Leaves}
+use Rattle.bindlewort.specs.Given.{Told, Given, Leaves}
 use Rattle.bindlewort.proofs.Demands.{check-unique, snapshot-unique, repair-unique}
 use Rattle.both_sides.specs.Cases.{Counted, elements}
 
@@ -70,16 +69,16 @@ module _ {L : Tables} {a b : Answered} {k : Bool} {r : ℕ} (counts : r ≡ cond
   repair-counted g w = case-counted (Leaves (Repaired L)) (λ x y u v p q. repair-unique L x u p y v q) g w counts
 
 -- before turn i, the table is as long as it was, and each number below i is an element's
-pub record Filled (before nodes : List ℕ) (i : ℕ) : Type 0 where
+pub record ElementsPut (before nodes : List ℕ) (i : ℕ) : Type 0 where
   pub long : length nodes ≡ length before
   pub passed : (k : ℕ) → k < i → getD nodes k 0 ≡ elements k
 
-pub filled-start : (before : List ℕ) → Filled before before 0
-filled-start before = record { long = refl; passed = λ k l. absurd (omega arith) }
+pub elements-start : (before : List ℕ) → ElementsPut before before 0
+elements-start before = record { long = refl; passed = λ k l. absurd (omega arith) }
 
-pub filled-step : (before nodes : List ℕ) (i v : ℕ) → Filled before nodes i → i < length nodes → v ≡ elements i
-    → Filled before (set nodes i v) (i + 1)
-filled-step before nodes i v d h e =
+pub elements-step : (before nodes : List ℕ) (i v : ℕ) → ElementsPut before nodes i → i < length nodes → v ≡ elements i
+    → ElementsPut before (set nodes i v) (i + 1)
+elements-step before nodes i v d h e =
     record {
       long = length-set nodes i v ∙ d .long;
       passed =

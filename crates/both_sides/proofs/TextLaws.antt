@@ -1,10 +1,12 @@
 -- What read text and write text come to one after the other, by what each promises: `reads` and `writes` are what
 -- bw_read_text and bw_write_text ensure.
---   form-read, form-unread   with room for every history within the sizes, read text answers 0 exactly if the text is
---                            of the form; counts-most: the counts are within the sizes
---   tables-written, tables-unwritten   write text answers 0 exactly if the tables are writable
---   again-counted            what was read is written again as the same text; again-place: that is how long it is
---   back-told                what was written is read back as the same tables; rows-back: rows of them
+--   Most          lent tables as long as the sizes allow; zeros-most: those of the program
+--   form-read, form-unread             into these, read text answers 0 exactly if the text is of the form
+--   rows-fit      the rows that were read are within what was lent
+--   again         what was read is written again as the same text
+--   tables-written, tables-unwritten   write text answers 0 exactly if it can write the tables
+--   text-fits     the text that was written is within what was lent
+--   back          what was written is read back as the same tables
 -- Assumes nothing.
 use mathlib.Core.Path.{_≡_, refl, sym, ap, _∙_}
 use mathlib.Core.Bool.{false, false≢true}
@@ -20,24 +22,21 @@ use Rattle.answers.specs.Numbers.{Numbers, numbers, refuses, passed}
 use Rattle.tables.specs.Tables.{Now, nodeWidth, edgeWidth, refWidth, Table, Tables}
 use Rattle.tables.specs.Rules.{mostNodes, mostEdges, mostRefs, Whole, Sizes}
 use Rattle.text.specs.Text.{Small, textOf}
-use Rattle.text.specs.Answers.{Written, out-of-size, short, wrote, Accepted, Fits, Read, readingOf}
+use Rattle.text.specs.Answers.{Written, out-of-size, short, wrote, Accepted, Fits, readingOf}
 use Rattle.text.proofs.TieLaws.{sizes-of}
 use Rattle.text.proofs.PromiseLaws.{read-accepted, read-fronts, write-unique, write-holds}
 use Rattle.bindlewort.specs.declared.Answered.{Answered}
 use Rattle.bindlewort.specs.declared.Reading.{Reading}
-use Rattle.bindlewort.specs.Given.{slices, Told, Retold, Given}
-use Rattle.bindlewort.specs.Codes.{Leaves, Reads}
+use Rattle.bindlewort.specs.Given.{slices, Retold, Leaves, Reads}
 use Rattle.bindlewort.proofs.GivenLaws.{told-code, told-done, written-place}
 use Rattle.bindlewort.proofs.Demands.{written-reads-back, read-writes-again}
-use Rattle.both_sides.specs.Cases.{OfForm, Writable}
+use Rattle.both_sides.specs.Cases.{OfForm, CanWrite}
 
--- lent tables as long as the sizes allow
 pub record Most (n e f : List ℕ) : Type 0 where
   pub nodes : length n ≡ mostNodes * nodeWidth
   pub edges : length e ≡ mostEdges * edgeWidth
   pub refs : length f ≡ mostRefs * refWidth
 
--- as the program lends them
 pub zeros-most : Most (replicate (mostNodes * nodeWidth) 0) (replicate (mostEdges * edgeWidth) 0)
     (replicate (mostRefs * refWidth) 0)
 zeros-most = record { nodes = refl; edges = refl; refs = refl }
@@ -50,23 +49,23 @@ most-fits m s =
       refs = omega (arith, s .refs .whole, s .refs .most);
     }
 
--- k rows of w numbers, where these are all of a table's, fill the front of what was lent
+-- rows, k of w numbers each, that fill the front of what was lent: they are within it, and are found there
 front-long : (xs old : List ℕ) → length xs ≤ length (front xs old)
 front-long xs old = omega (arith, length-append xs (drop (length xs) old))
 
-front-fits : (w : ℕ) {k : ℕ} {left : List ℕ} (x : Table) (old : List ℕ) → Whole w x → k ≡ x .count → left ≡ front (x .numbers) old
-    → k * w ≤ length left
+front-fits : (w : ℕ) {k : ℕ} {left : List ℕ} (x : Table) (old : List ℕ) → Whole w x → k ≡ x .count
+    → left ≡ front (x .numbers) old → k * w ≤ length left
 front-fits w x old whole c e = rw (c, e, ← whole) (front-long (x .numbers) old)
 
-front-rows : (w : ℕ) {k : ℕ} {left : List ℕ} (x : Table) (old : List ℕ) → Whole w x → k ≡ x .count → left ≡ front (x .numbers) old
-    → take (k * w) left ≡ x .numbers
+front-rows : (w : ℕ) {k : ℕ} {left : List ℕ} (x : Table) (old : List ℕ) → Whole w x → k ≡ x .count
+    → left ≡ front (x .numbers) old → take (k * w) left ≡ x .numbers
 front-rows w x old whole c e =
     rw (c, e, ← whole) (take-append-seam (x .numbers) (drop (length (x .numbers)) old))
 
-writable : {L : Tables} {out out′ : List ℕ} {a : Answer} → Written L out a out′ → refuses a ≡ false → Writable L out
-writable (out-of-size g) c = absurd (false≢true (sym c))
-writable (short s h) c = absurd (false≢true (sym c))
-writable (wrote s h) c = (s, h)
+can-write : {L : Tables} {out out′ : List ℕ} {a : Answer} → Written L out a out′ → refuses a ≡ false → CanWrite L out
+can-write (out-of-size g) c = absurd (false≢true (sym c))
+can-write (short s h) c = absurd (false≢true (sym c))
+can-write (wrote s h) c = (s, h)
 
 -- what read text returned, and left in tables as long as the sizes allow
 module _ {s n e f : List ℕ} {r : Reading} {n′ e′ f′ : List ℕ} (most : Most n e f)
@@ -112,7 +111,7 @@ module _ {s n e f : List ℕ} {r : Reading} {n′ e′ f′ : List ℕ} (most : 
         (rw (p, left) (front-long s out), rw (p, left) (take-append-seam s (drop (length s) out)))
 
 -- the start and the rows that were written
-pub record Back (L : Tables) (q : Reading) (n′ e′ f′ : List ℕ) : Type 0 where
+pub record CameBack (L : Tables) (q : Reading) (n′ e′ f′ : List ℕ) : Type 0 where
   pub code : q .answer .code ≡ 0
   pub start : q .start ≡ L .start
   pub nodes : take (q .nodes * nodeWidth) n′ ≡ L .nodes .numbers
@@ -121,13 +120,13 @@ pub record Back (L : Tables) (q : Reading) (n′ e′ f′ : List ℕ) : Type 0 
 
 -- what write text returned, and left in an output
 module _ {L : Tables} {out : List ℕ} {r : Answered} {out′ : List ℕ} (writes : Leaves (Written L out) r out′) where
-  pub tables-unwritten : r .code ≢ 0 → Writable L out → ⊥
+  pub tables-unwritten : r .code ≢ 0 → CanWrite L out → ⊥
   tables-unwritten h (s, room) =
       let (a, w, e) = writes in
       h (told-code r a e ∙ ap (λ (b : Answer). numbers b .code) (write-unique w (wrote s room) .0))
 
-  pub tables-written : r .code ≡ 0 → Writable L out
-  tables-written z = let (a, w, e) = writes in writable w (told-done r a e z)
+  pub tables-written : r .code ≡ 0 → CanWrite L out
+  tables-written z = let (a, w, e) = writes in can-write w (told-done r a e z)
 
   pub text-fits : r .code ≡ 0 → r .place ≤ length out′
   text-fits z =
@@ -135,10 +134,10 @@ module _ {L : Tables} {out : List ℕ} {r : Answered} {out′ : List ℕ} (write
       rw (written-place writes z, write-holds w (told-done r a e z) .2) (front-long (textOf L) out)
 
   -- what was written, read back
-  module _ (z : r .code ≡ 0) (start : L .start ≤ Now) (nodes : Small (L .nodes .numbers)) (edges : Small (L .edges .numbers))
-      (refs : Small (L .refs .numbers)) {n e f : List ℕ} {q : Reading} {n′ e′ f′ : List ℕ} (most : Most n e f)
-      (reads : Reads (take (r .place) out′) n e f q n′ e′ f′) where
-    pub back : Back L q n′ e′ f′
+  module _ (z : r .code ≡ 0) (start : L .start ≤ Now) (nodes : Small (L .nodes .numbers))
+      (edges : Small (L .edges .numbers)) (refs : Small (L .refs .numbers)) {n e f : List ℕ} {q : Reading}
+      {n′ e′ f′ : List ℕ} (most : Most n e f) (reads : Reads (take (r .place) out′) n e f q n′ e′ f′) where
+    pub back : CameBack L q n′ e′ f′
     back =
         let (sizes, room) = tables-written z in
         let (g, i, j, k) =

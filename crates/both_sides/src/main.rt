@@ -10,7 +10,7 @@ ghost use Rattle.verdict.specs.Checked.{Checked};
 ghost use Rattle.snapshot.specs.Snapshot.{Snapshot};
 ghost use Rattle.repair.specs.Repaired.{Repaired};
 ghost use Rattle.bindlewort.specs.Given.{slices, Told, Given};
-ghost use Rattle.both_sides.specs.Cases.{Counted, OfForm, Writable, elements};
+ghost use Rattle.both_sides.specs.Cases.{Counted, OfForm, CanWrite, elements};
 use bindlewort::Answered;
 use bindlewort::bw_check;
 use bindlewort::bw_read_text;
@@ -184,7 +184,7 @@ fn read_is_written(text: &[u8], out: &mut [u8]) -> u32
 // Writes tables as text, reads that back, and compares: tables are counted exactly if they are within the sizes and the
 // output has room for their text.
 fn written_is_read(start: u32, nodes: &[u32], edges: &[u32], refs: &[u32], out: &mut [u8]) -> u32
-    ensures { λ r. ⌜ Counted (Writable (slices start (now (nodes .entry)) (now (edges .entry)) (now (refs .entry)))
+    ensures { λ r. ⌜ Counted (CanWrite (slices start (now (nodes .entry)) (now (edges .entry)) (now (refs .entry)))
         (now (out .entry))) r ⌝ }
 {
     let mut n = [0u32; MOST_NODES * NODE_WIDTH];

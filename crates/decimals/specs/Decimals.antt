@@ -8,7 +8,7 @@ use lib.Dec.{ltb}
 abbrev pub nought : ℕ
 nought = 48
 
--- with at most k more digits than one. What a `let` binds waits: no digit is made in front of the first
+-- the decimal of n, in at most k + 1 digits: n + 1 are enough. (What a `let` binds waits: no digit too many is made.)
 unfoldable pub decF : ℕ → ℕ → List ℕ
 decF zero n = (nought + n) ∷ []
 decF (suc k) n =

@@ -1,4 +1,4 @@
--- The smallest number with a property, below a bound: every smallest row, node and place. Assumes nothing.
+-- The smallest number with a property, below a bound: every smallest row and node. Assumes nothing.
 use Prim.Native.Nat.{ℕ, _≤_, _<_}
 
 -- some number below n has P

@@ -4,3 +4,4 @@ pub mod Searches
 pub mod Sums
 pub mod Stores
 pub mod Lists
+pub mod Among

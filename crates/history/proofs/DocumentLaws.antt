@@ -10,7 +10,7 @@ use Rattle.tables.specs.Tables.{Now}
 use Rattle.history.specs.Faults.{History, Into, Overlap, Here, HoldsAt, Faultless}
 use Rattle.history.specs.Document.{Lifespan, InLifespan, RootedTree, Document}
 use Rattle.history.specs.Ruled.{Ruled}
-use Rattle.history.proofs.Tree.{same-row, up-row}
+use Rattle.history.proofs.Tree.{Tree, same-row, up-row}
 use Rattle.history.proofs.SoundLaws.{not-away, sound}
 use Rattle.history.proofs.ConsecutiveLaws.{consecutive-no-overlap, consecutive-no-gap}
 use Rattle.history.proofs.ListedLaws.{incoming-listed}
@@ -28,6 +28,17 @@ module _ (H : History) where
   module _ (r : Ruled H) where
     not-root : (n t i : ℕ) → Into (H .edges) (H .edge) t n i → n ≢ 0
     not-root n t i p e = r .edge-fits i (p .row) .not-root (p .into ∙ e)
+
+    -- where none of OVERLAP, OUTSIDE and CYCLE holds, the rows in force are a tree with the root
+    pub rooted-tree : (t : ℕ) → Tree (H .edges) (H .edge) t → RootedTree H t
+    rooted-tree t w =
+        record {
+          root = λ i p. not-root 0 t i p refl;
+          one = λ n ne x.
+              let (i, p) = up-row (H .edges) (H .edge) t (w .no-outside) n ne x in
+              (i, p, λ j q. same-row (H .edges) (H .edge) t (w .no-overlap) n j i q p);
+          acyclic = λ n i is c. w .no-cycle n (i, is, c);
+        }
 
     -- each fault breaks its condition
     document-faultless : Document H → (t : ℕ) → t ≤ Now → (k : Kind) (p : ℕ) → HoldsAt H t k p → ⊥
@@ -59,13 +70,11 @@ module _ (H : History) where
 
       faultless-tree : (t : ℕ) → t ≤ Now → RootedTree H t
       faultless-tree t now =
-          record {
-            root = λ i p. not-root 0 t i p refl;
-            one = λ n ne x.
-                let (i, p) = up-row (H .edges) (H .edge) t (λ k. none t now (fault kind.Outside k)) n ne x in
-                (i, p, λ j q. same-row (H .edges) (H .edge) t (λ k. none t now (fault kind.Overlap k)) n j i q p);
-            acyclic = λ n i is c. none t now (fault kind.Cycle n) (i, is, c);
-          }
+          rooted-tree t (record {
+            no-overlap = λ n. none t now (fault kind.Overlap n);
+            no-outside = λ n. none t now (fault kind.Outside n);
+            no-cycle = λ n. none t now (fault kind.Cycle n);
+          })
 
       faultless-document : Document H
       faultless-document =

@@ -17,11 +17,12 @@ use Rattle.answers.specs.declared.Fault.{Fault}
 use Rattle.answers.specs.declared.Answer.{Answer}
 use Rattle.answers.specs.declared.Answer.the-variants.{Faulty}
 use Rattle.answers.specs.Numbers.{codeOf, refuses, passed}
-use Rattle.answers.specs.Refusals.{kinds, shownKinds, fault}
-use Rattle.answers.proofs.KindLaws.{code-unique, every-kind, isIn, kind-listed, in-here, in-more, in-cases, every-in, rises}
-use Rattle.answers.proofs.KindLaws.{rises-first, rises-rest}
+use Rattle.answers.specs.Kinds.{kinds, shownKinds}
+use Rattle.answers.specs.Refusals.{fault}
+use Rattle.answers.proofs.KindLaws.{code-unique, every-kind, isIn, kind-listed, in-here, in-more, in-cases, every-in}
+use Rattle.answers.proofs.KindLaws.{rises, rises-first, rises-rest}
 use Rattle.answers.proofs.AnswerLaws.{faulty-refuses, first-refuses, first-passes}
-use Rattle.history.specs.Faults.{History, HoldsAt, Holds, Ahead, Shown}
+use Rattle.history.specs.Faults.{History, HoldsAt, Holds, Ahead, GapAside}
 use Rattle.history.specs.Ruled.{Ruled}
 use Rattle.history.specs.Places.{places, Names, none, first}
 use Rattle.history.specs.Computed.{holds, lineSays, say, faultsSay, shownSay}
@@ -97,9 +98,9 @@ module _ (H : History) (t : ℕ) (r : Ruled H) where
   pub faults-named : Names (Holds H t) t (faultsSay H t)
   faults-named = named H t r (Holds H t) (λ f x. x) kinds refl (λ k i p x. x) (λ f x. kind-listed (f .kind))
 
-  pub shown-named : Names (Shown H t) t (shownSay H t)
+  pub shown-named : Names (GapAside H t) t (shownSay H t)
   shown-named =
-      named H t r (Shown H t) (λ f x. x .0) shownKinds refl
+      named H t r (GapAside H t) (λ f x. x .0) shownKinds refl
       (λ k i p x. (
         x,
         eqb-false _ _ (not-true _ (every-in (λ k. not (eqb (codeOf k) (codeOf Gap))) shownKinds k refl i)),

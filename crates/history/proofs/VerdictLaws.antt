@@ -11,7 +11,7 @@ use Rattle.answers.specs.Numbers.{passed}
 use Rattle.tables.specs.Tables.{Now}
 use Rattle.history.specs.Faults.{History, Holds, First, Faultless, Earliest, Verdict, accepted, refused}
 use Rattle.history.specs.Ruled.{Ruled}
-use Rattle.history.specs.Sound.{Sound}
+use Rattle.history.specs.Sound.{AllSound, FirstUnsound}
 use Rattle.history.specs.Document.{Document}
 use Rattle.history.specs.Places.{Names, none, first}
 use Rattle.history.proofs.OrderLaws.{first-unique}
@@ -50,14 +50,13 @@ module _ (H : History) (r : Ruled H) where
   accepted-document bound =
       (λ v. document H r bound .1 (faultless-of v), λ d. accepted (document H r bound .0 d))
 
-  pub accepted-sound : Verdict H passed ↔ ((t : ℕ) → t ≤ Now → Sound H t)
+  pub accepted-sound : Verdict H passed ↔ AllSound H
   accepted-sound = (λ v t h. sound H t r .0 (faultless-of v t h), λ s. accepted (λ t h. sound H t r .1 (s t h)))
 
   pub earliest-of : {t : ℕ} {f : Fault} → Verdict H (Faulty t f) → Earliest H t f
   earliest-of (refused e) = e
 
-  pub refused-unsound : {t : ℕ} {f : Fault} → Verdict H (Faulty t f)
-      → (t ≤ Now) × (Sound H t → ⊥) × ((s : ℕ) → s < t → Sound H s) × First (Holds H t) f
+  pub refused-unsound : {t : ℕ} {f : Fault} → Verdict H (Faulty t f) → FirstUnsound H t f
   refused-unsound {t} {f} v =
       let e = earliest-of v in
       (e .instant, λ s. sound H t r .1 s f (e .fault .holds), λ s h. sound H s r .0 (e .earliest s h), e .fault)

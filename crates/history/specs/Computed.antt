@@ -26,7 +26,8 @@ use Rattle.answers.specs.declared.Kind.{Kind}
 use Rattle.answers.specs.declared.Kind.the-variants.{Overlap, Gap, Outside, Cycle, Late, Dangling}
 use Rattle.answers.specs.declared.Answer.{Answer}
 use Rattle.answers.specs.declared.Answer.the-variants.{Faulty}
-use Rattle.answers.specs.Refusals.{kinds, shownKinds, fault, _⨾_}
+use Rattle.answers.specs.Kinds.{kinds, shownKinds}
+use Rattle.answers.specs.Refusals.{fault, _⨾_}
 use Rattle.answers.specs.Numbers.{refuses, passed}
 use Rattle.tables.specs.declared.rows.Side.{Side}
 use Rattle.tables.specs.declared.rows.Side.the-variants.{Attribute, Target}

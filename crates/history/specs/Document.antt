@@ -1,5 +1,6 @@
--- Rizzolo and Vaisman's Temporal XML Document: r is node 0, t0 the start. [01] leaves out condition 4 and half of 5.
--- OUTSIDE breaks condition 1, OVERLAP and GAP break 2, CYCLE 3, LATE the half of 5, DANGLING 6. Assumes nothing.
+-- Rizzolo and Vaisman's Temporal XML Document, of tables that obey the rules: r is node 0, t0 the start. [01] leaves
+-- out condition 4 and half of 5, and reads 1 as OUTSIDE, 2 as OVERLAP and GAP, 3 as CYCLE, the half of 5 as LATE, 6 as
+-- DANGLING: that all together are the same is proved. Assumes nothing.
 use mathlib.Core.Path.{_≡_}
 use mathlib.Core.Logic.{_≢_, _⊎_, _↔_}
 use mathlib.Core.List.{List, [], _∷_, List·Memᴰ as Among}
@@ -39,7 +40,7 @@ module _ (H : History) where
         → (i : ℕ) × Into (H .edges) (H .edge) t n i × ((j : ℕ) → Into (H .edges) (H .edge) t n j → j ≡ i)
     pub acyclic : (n i : ℕ) (is : List ℕ) → Chain (H .edges) (H .edge) t n n (i ∷ is) → ⊥
 
-  -- [003:Def 3] "a document graph augmented with temporal labels, that satisfies the following conditions"
+  -- [003:Def 3] the conditions that a document graph with temporal labels satisfies
   pub record Document : Type 0 where
     -- 1. "The union of the temporal labels of the containment edges outgoing from a node is contained in the lifespan
     -- of the node."
@@ -47,10 +48,10 @@ module _ (H : History) where
     -- 2. "The temporal labels of the containment edges incoming to a node are consecutive.": in a list of just these
     pub incoming : (n : ℕ) → (is : List ℕ) × ((i : ℕ) → Among i is ↔ Incoming n i) × Consecutive is
     -- 3. "For any time instant t, the sub-graph composed by all containment edges ec such that t ∈ Tec is a tree with
-    -- root r."
+    -- root r. We call this subgraph a snapshot of the document at time t"
     pub tree : (t : ℕ) → t ≤ Now → RootedTree t
-    -- 5. "if nj is an attribute of type REF, such that there exists a reference edge er(nj, nk, Ter), then Tec = Ter
-    -- holds": that half by which a reference is in force only while its attribute is there
+    -- 5. "For any containment edge ec(ni, nj, Tec), if nj is an attribute of type REF, such that there exists a
+    -- reference edge er(nj, nk, Ter), then Tec = Ter holds.": the half that [01] keeps, with all edges into nj together
     pub attribute : (k : ℕ) → k < H .refs → InLifespan (H .ref k .from) (H .ref k .to) (H .ref k .attribute)
     -- 6. "Let er(ni, nj, Ter) be a reference edge. Then, Ter ⊆ lifespan(nj) holds."
     pub target : (k : ℕ) → k < H .refs → InLifespan (H .ref k .from) (H .ref k .to) (H .ref k .target)

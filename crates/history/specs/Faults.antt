@@ -73,15 +73,16 @@ module _ (m : ℕ) (E : ℕ → EdgeRow) (t : ℕ) where
   abbrev pub Overlap : ℕ → Type 0
   Overlap n = (i : ℕ) × (j : ℕ) × (i < j) × Into n i × Into n j
 
-  -- 12 GAP "n is not the root, no row into n is in force, one ended before t and one starts after t"
+  -- [01:Faults at an instant] 12 GAP "n is not the root, no row into n is in force, one ended before t and one starts
+  -- after t"
   abbrev pub Gap : ℕ → Type 0
   Gap n = (n ≢ 0) × NoneInto n × ((i : ℕ) × Ended n i) × ((j : ℕ) × Coming n j)
 
-  -- 13 OUTSIDE "n is not the root, a row out of n is in force and none into n"
+  -- [01:Faults at an instant] 13 OUTSIDE "n is not the root, a row out of n is in force and none into n"
   abbrev pub Outside : ℕ → Type 0
   Outside n = (n ≢ 0) × ((i : ℕ) × Out n i) × NoneInto n
 
-  -- 14 CYCLE "a chain of one or more containment rows, all in force, leads from n to n"
+  -- [01:Faults at an instant] 14 CYCLE "a chain of one or more containment rows, all in force, leads from n to n"
   abbrev pub Cycle : ℕ → Type 0
   Cycle n = (i : ℕ) × (is : List ℕ) × Chain n n (i ∷ is)
 
@@ -93,11 +94,11 @@ module _ (H : History) (t : ℕ) where
   abbrev pub Here : ℕ → Type 0
   Here = Present (H .edges) (H .edge) t (H .start)
 
-  -- 15 LATE "a reference is in force and its attribute is not present"
+  -- [01:Faults at an instant] 15 LATE "a reference is in force and its attribute is not present"
   abbrev pub Late : ℕ → Type 0
   Late k = Refers k × (Here (H .ref k .attribute) → ⊥)
 
-  -- 16 DANGLING "a reference is in force and its target is not present"
+  -- [01:Faults at an instant] 16 DANGLING "a reference is in force and its target is not present"
   abbrev pub Dangling : ℕ → Type 0
   Dangling k = Refers k × (Here (H .ref k .target) → ⊥)
 
@@ -139,5 +140,5 @@ pub data Verdict (H : History) : Answer → Type 0 where
   refused : {t : ℕ} {f : Fault} → Earliest H t f → Verdict H (Faulty t f)
 
 -- [01:What the calls answer] Snapshot: "the fault at t of smallest code and place with GAP set aside"
-abbrev pub Shown : History → ℕ → Fault → Type 0
-Shown H t f = Holds H t f × (codeOf (f .kind) ≢ codeOf kind.Gap)
+abbrev pub GapAside : History → ℕ → Fault → Type 0
+GapAside H t f = Holds H t f × (codeOf (f .kind) ≢ codeOf kind.Gap)

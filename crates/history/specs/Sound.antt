@@ -2,9 +2,10 @@
 use mathlib.Core.Path.{_≡_}
 use mathlib.Core.Logic.{_⊎_}
 use mathlib.Core.List.{List}
-use Prim.Native.Nat.{ℕ}
-use Rattle.tables.specs.Tables.{EdgeRow}
-use Rattle.history.specs.Faults.{History, Into, Out, Ended, Coming, Chain, Refers, Here}
+use Prim.Native.Nat.{ℕ, _≤_, _<_}
+use Rattle.answers.specs.declared.Fault.{Fault}
+use Rattle.tables.specs.Tables.{Now, EdgeRow}
+use Rattle.history.specs.Faults.{History, Into, Out, Ended, Coming, Chain, Refers, Here, Holds, First}
 
 module _ (m : ℕ) (E : ℕ → EdgeRow) (t : ℕ) where
   -- a row in force touches n
@@ -28,3 +29,11 @@ module _ (H : History) (t : ℕ) where
     pub reached : (n : ℕ) → Touched (H .edges) (H .edge) t n → OneChain (H .edges) (H .edge) t 0 n
     pub unbroken : (n : ℕ) → Missing n → ⊥
     pub joined : (k : ℕ) → Refers H t k → Here H t (H .ref k .attribute) × Here H t (H .ref k .target)
+
+-- [demand 3] "at every instant from 0 to Now"
+abbrev pub AllSound : History → Type 0
+AllSound H = (t : ℕ) → t ≤ Now → Sound H t
+
+-- [demand 3] "the earliest instant at which this fails, with the kind and place that the rules fix"
+abbrev pub FirstUnsound : History → ℕ → Fault → Type 0
+FirstUnsound H t f = (t ≤ Now) × (Sound H t → ⊥) × ((s : ℕ) → s < t → Sound H s) × First (Holds H t) f

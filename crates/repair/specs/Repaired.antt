@@ -46,8 +46,7 @@ pub record NewEnd (edge : ℕ → EdgeRow) (m i e : ℕ) : Type 0 where
 abbrev pub OnlyEnds : (ℕ → EdgeRow) → (ℕ → EdgeRow) → Type 0
 OnlyEnds before after = (i : ℕ) → after i ≡ withEnd (before i) (after i .to)
 
--- what a repair leaves in a table: a number belongs to one row, so this determines all of them, those past the count's
--- rows too
+-- what a repair leaves in a table: every number of it is one of a row, and so determined, past the count's rows too
 pub record Mended (x : Table) (left : List ℕ) : Type 0 where
   pub size : length left ≡ length (x .numbers)
   pub frame : OnlyEnds (edgeAt (x .numbers)) (edgeAt left)

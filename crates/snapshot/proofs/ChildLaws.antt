@@ -10,7 +10,7 @@ use lib.Dec.{eqb}
 use borrow.Author.Tests.{eq-eqb, ne-eqb}
 use Rattle.ground.specs.Tests.{Tells}
 use Rattle.ground.specs.Sums.{sum, bit}
-use Rattle.ground.specs.Lists.{All}
+use Rattle.ground.specs.Among.{All}
 use Rattle.ground.proofs.TestLaws.{by-test, tells-and, tells-eq}
 use Rattle.ground.proofs.LeastLaws.{any-tells}
 use Rattle.ground.proofs.SumLaws.{sum-zero, sum-one}

@@ -1,5 +1,5 @@
 -- What the promise of the call snapshot comes to.
---   contained         a successful answer shows exactly what was contained (specs/Exact.antt)
+--   contained         a successful answer is of a tree, and shows exactly what was contained (specs/Exact.antt)
 --   refused-frame     a refused call leaves the output as it was
 --   rows-needed       how many rows are needed: one for the root and one for each other node that is present
 --   snapshot-unique   two outcomes that the promise allows coincide
@@ -16,6 +16,8 @@ use Rattle.answers.specs.declared.Answer.the-variants.{Done}
 use Rattle.answers.specs.Numbers.{refuses}
 use Rattle.tables.specs.Tables.{Tables}
 use Rattle.history.specs.Faults.{History, held}
+use Rattle.history.specs.Document.{RootedTree}
+use Rattle.history.proofs.DocumentLaws.{rooted-tree}
 use Rattle.snapshot.specs.Snapshot.{ShownRow, shownNumbers, ShownRows, Ready, Snapshot, unready, short, shows}
 use Rattle.snapshot.specs.Exact.{Exact}
 use Rattle.snapshot.specs.Says.{rowsOf, written}
@@ -39,11 +41,12 @@ module _ (L : Tables) (t : ℕ) where
 
   module _ {before : List ℕ} where
     pub contained : {r : Answer} {after : List ℕ} → Snapshot L t before r after → refuses r ≡ false
-        → (xs : List ShownRow) × ShownRows H t xs × Exact H t xs × (r ≡ Done t (length xs))
-        × (after ≡ front (shownNumbers xs) before)
+        → RootedTree H t × ((xs : List ShownRow) × ShownRows H t xs × Exact H t xs × (r ≡ Done t (length xs))
+        × (after ≡ front (shownNumbers xs) before))
     contained (unready u) f = absurd (false≢true (sym f ∙ unready-refuses L t u))
     contained (short k x h) f = absurd (true≢false f)
-    contained (shows {xs = xs} k x h) f = (xs, x, shown-exact k x, refl, refl)
+    contained (shows {xs = xs} k x h) f =
+        (rooted-tree H (ready-ruled L t k) t (ready-tree L t k), (xs, x, shown-exact k x, refl, refl))
 
     pub refused-frame : {r : Answer} {after : List ℕ} → Snapshot L t before r after → refuses r ≡ true → after ≡ before
     refused-frame (unready u) e = refl

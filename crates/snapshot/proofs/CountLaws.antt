@@ -7,7 +7,7 @@ use lib.Dec.{eqb}
 use lib.ListN.{length}
 use borrow.Author.Tests.{eq-eqb, ne-eqb}
 use Rattle.ground.specs.Sums.{sum, bit}
-use Rattle.ground.specs.Lists.{All}
+use Rattle.ground.specs.Among.{All}
 use Rattle.ground.proofs.SumLaws.{sum-add, sum-zero, sum-one}
 use Rattle.snapshot.specs.Snapshot.{ShownRow}
 use Rattle.snapshot.specs.Exact.{standing}

@@ -22,7 +22,7 @@ use Rattle.tables.specs.Tables.{Tables}
 use Rattle.tables.specs.Rules.{mostNodes, Obeys, Gives}
 use Rattle.tables.specs.Says.{historySays}
 use Rattle.tables.proofs.GivesLaws.{gives-is, gives-says, obeys-tells}
-use Rattle.history.specs.Faults.{History, held, Shown}
+use Rattle.history.specs.Faults.{History, held, GapAside}
 use Rattle.history.specs.Ruled.{Ruled}
 use Rattle.history.specs.Places.{Names, none, first}
 use Rattle.history.specs.Computed.{shownSay}
@@ -41,7 +41,7 @@ use Rattle.snapshot.proofs.RowLaws.{counted, walked}
 
 -- what is computed at an instant: before the start, and where a fault is named or none
 module _ (H : History) (t : ℕ) where
-  none-tree : ((f : Fault) → Shown H t f → ⊥) → Tree (H .edges) (H .edge) t
+  none-tree : ((f : Fault) → GapAside H t f → ⊥) → Tree (H .edges) (H .edge) t
   none-tree never =
       record {
         no-overlap = λ n x. never (fault kind.Overlap n) (x, omega arith);
@@ -79,7 +79,7 @@ module _ (L : Tables) (t : ℕ) where
   ready-tree r = none-tree H t (r .none)
 
   -- [02:Ask 8] "no chain can pass 1,023 rows"
-  pub never-deep : Obeys L → ((f : Fault) → Shown H t f → ⊥) → TooDeep H t → ⊥
+  pub never-deep : Obeys L → ((f : Fault) → GapAside H t f → ⊥) → TooDeep H t → ⊥
   never-deep o n = shallow H t (obeys-ruled L o) (none-tree H t n)
 
   says-refused : refuses (historySays L) ≡ true → readySays L t ≡ historySays L
@@ -92,7 +92,7 @@ module _ (L : Tables) (t : ℕ) where
 
   says-ready : (r : Known) → readySays L t ≡ passed
   says-ready r =
-      let named = ap refuses (names-unique (Shown H t) t (shown-named H t (ready-ruled r)) (none (r .none))) in
+      let named = ap refuses (names-unique (GapAside H t) t (shown-named H t (ready-ruled r)) (none (r .none))) in
       says-obeyed (r .obeys) ∙ depth-says H t (r .begun) named ∙ rw (not-deep H t (ready-ruled r) (ready-tree r))
 
   pub readiness-is : {a : Answer} → Is a → a ≡ readySays L t
@@ -101,7 +101,7 @@ module _ (L : Tables) (t : ℕ) where
       q ∙ sym (says-refused (ap refuses (sym q) ∙ e))
   readiness-is (refused (early o h)) = sym (says-obeyed o ∙ early-says H t h)
   readiness-is (refused (faulty {f = f} o b x)) =
-      let q = names-unique (Shown H t) t (first x) (shown-named H t (obeys-ruled L o)) in
+      let q = names-unique (GapAside H t) t (first x) (shown-named H t (obeys-ruled L o)) in
       q ∙ sym (says-obeyed o ∙ fault-says H t b (ap refuses (sym q) ∙ faulty-refuses t f))
   readiness-is (refused (deep o b n d)) = absurd (never-deep o n d)
   readiness-is (is-ready r) = sym (says-ready r)
@@ -110,7 +110,7 @@ module _ (L : Tables) (t : ℕ) where
   pub rules-readiness : {a : Answer} → a ≡ historySays L → refuses a ≡ true → Is a
   rules-readiness q e = refused (ruled-out (subst (Gives L) (sym q) (gives-says L)) e)
 
-  shown-readiness : Obeys L → L .start ≤ t → {a : Answer} → Names (Shown H t) t a → Is a
+  shown-readiness : Obeys L → L .start ≤ t → {a : Answer} → Names (GapAside H t) t a → Is a
   shown-readiness o b (none n) = is-ready (record { obeys = o; begun = b; none = n; shallow = never-deep o n })
   shown-readiness o b (first x) = refused (faulty o b x)
 
@@ -149,7 +149,7 @@ module _ (L : Tables) (t : ℕ) where
       → Readied L t r up
   readied-shown o b h x =
       let ruled = obeys-ruled L o in
-      let named = subst (Names (Shown H t) t) (sym (x .answer)) (shown-named H t ruled) in
+      let named = subst (Names (GapAside H t) t) (sym (x .answer)) (shown-named H t ruled) in
       record {
         answer = shown-readiness o b named;
         seen = λ f. record { ruled = ruled; long = h; slots = x .slots };

@@ -5,7 +5,7 @@ use mathlib.Core.List.{List, [], _∷_, _++_, append-assoc}
 use Prim.Native.Nat.{ℕ, zero, suc, _-_, _*_, _<_}
 use native.Mathlib.Omega.{arith}
 use lib.ListN.{length}
-use Rattle.ground.specs.Lists.{All}
+use Rattle.ground.specs.Among.{All}
 use Rattle.snapshot.specs.Snapshot.{ShownRow, shownWidth, shownNumbers}
 use Rattle.snapshot.specs.Walk.{each, shownRow, subtree}
 

@@ -5,7 +5,7 @@ use mathlib.Core.List.{List, [], _∷_}
 use Prim.Native.Nat.{ℕ, _+_}
 use lib.Dec.{eqb}
 use Rattle.ground.specs.Sums.{bit}
-use Rattle.ground.specs.Lists.{All}
+use Rattle.ground.specs.Among.{All}
 use Rattle.tables.specs.Tables.{noNode}
 use Rattle.history.specs.Faults.{History, Here}
 use Rattle.snapshot.specs.Snapshot.{ShownRow, IsChild, Referent}

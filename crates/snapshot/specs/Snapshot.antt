@@ -12,7 +12,7 @@ use Rattle.answers.specs.declared.Answer.the-variants.{Done, Faulty, Room, Earl
 use Rattle.answers.specs.Numbers.{refuses}
 use Rattle.tables.specs.Tables.{During, noNode, Tables}
 use Rattle.tables.specs.Rules.{Obeys, Gives}
-use Rattle.history.specs.Faults.{History, held, Into, Chain, First, Shown}
+use Rattle.history.specs.Faults.{History, held, Into, Chain, First, GapAside}
 
 -- [01:What the calls answer] DEEP "a chain in force at the instant has more than 1,023 rows"
 abbrev pub mostDeep : ℕ
@@ -73,11 +73,11 @@ module _ (H : History) (t : ℕ) where
   ShownRows = Subtree noNode 0
 
 module _ (L : Tables) (t : ℕ) where
-  -- what can be shown
+  -- no refusal before 21 applies
   pub record Ready : Type 0 where
     pub obeys : Obeys L
     pub begun : L .start ≤ t
-    pub none : (f : Fault) → Shown (held L) t f → ⊥
+    pub none : (f : Fault) → GapAside (held L) t f → ⊥
     pub shallow : TooDeep (held L) t → ⊥
 
   -- [01:What the calls answer] Snapshot: "1 to 5 in order, 23, then the fault at t of smallest code and place with GAP
@@ -85,8 +85,8 @@ module _ (L : Tables) (t : ℕ) where
   pub data Unready : Answer → Type 0 where
     ruled-out : {a : Answer} → Gives L a → refuses a ≡ true → Unready a
     early : Obeys L → t < L .start → Unready (Early t)
-    faulty : {f : Fault} → Obeys L → L .start ≤ t → First (Shown (held L) t) f → Unready (Faulty t f)
-    deep : Obeys L → L .start ≤ t → ((f : Fault) → Shown (held L) t f → ⊥) → TooDeep (held L) t → Unready (Deep t)
+    faulty : {f : Fault} → Obeys L → L .start ≤ t → First (GapAside (held L) t) f → Unready (Faulty t f)
+    deep : Obeys L → L .start ≤ t → ((f : Fault) → GapAside (held L) t f → ⊥) → TooDeep (held L) t → Unready (Deep t)
 
   -- [01:What the calls answer] "21 (instant t, place: rows needed). Otherwise code 0, instant t, place k, and the first
   -- 3k numbers of the output hold k rows, the rest unchanged."; "No refusal writes to a lent table or buffer."

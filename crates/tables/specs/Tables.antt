@@ -73,7 +73,7 @@ refAt rs i =
       to = cellAt refWidth rs i 3;
     }
 
--- numbers that were lent, and how many rows they are said to hold: SIZE judges that
+-- numbers that were lent, and a count of rows: SIZE asks that they agree
 pub record Table : Type 0 where
   pub numbers : List ℕ
   pub count : ℕ

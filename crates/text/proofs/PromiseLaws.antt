@@ -19,7 +19,7 @@ use Rattle.tables.specs.Rules.{Whole, SizeRule, Sizes, Gives, nodes-size, edges
 use Rattle.tables.proofs.GivesLaws.{gives-is, sizes-pass}
 use Rattle.text.specs.declared.read.TextReading.{TextReading}
 use Rattle.text.specs.Text.{Small, LendableTable, Lendable, textOf}
-use Rattle.text.specs.Answers.{Written, out-of-size, short, wrote, Accepted, nothing, readingOf, Fits, TooShort}
+use Rattle.text.specs.Answers.{Written, out-of-size, short, wrote, Accepted, noTables, readingOf, Fits, TooShort}
 use Rattle.text.specs.Answers.{nodes-short, edges-short, refs-short, Read, wrong-text, no-room, took}
 use Rattle.text.proofs.TieLaws.{sizes-of}
 use Rattle.text.proofs.RoundTrip.{accepted-unique, accepted-or-not, place-unique}
@@ -79,13 +79,13 @@ pub read-unique : {s n e f : List ℕ} {r q : TextReading} {n′ e′ f′ n″ 
     → Read s n e f q n″ e″ f″
     → (r ≡ q) × (n′ ≡ n″) × (e′ ≡ e″) × (f′ ≡ f″)
 read-unique {s} (wrong-text x p) (wrong-text y q) =
-    (ap (λ (i : ℕ). readingOf (Text i) nothing) (place-unique s _ _ p q), refl, refl, refl)
+    (ap (λ (i : ℕ). readingOf (Text i) noTables) (place-unique s _ _ p q), refl, refl, refl)
 read-unique (wrong-text x p) (no-room b k) = absurd (x _ b)
 read-unique (wrong-text x p) (took b h) = absurd (x _ b)
 read-unique (no-room a j) (wrong-text y q) = absurd (y _ a)
 read-unique (no-room a j) (no-room b k) =
     let q = short-unique j (rw (accepted-unique b a) at k) in
-    (ap (λ (p : ℕ). readingOf (Room 0 p) nothing) q, refl, refl, refl)
+    (ap (λ (p : ℕ). readingOf (Room 0 p) noTables) q, refl, refl, refl)
 read-unique (no-room a j) (took b h) = absurd (short-not-fits j (rw (accepted-unique b a) at h))
 read-unique (took a g) (wrong-text y q) = absurd (y _ a)
 read-unique (took a g) (no-room b i) = absurd (short-not-fits i (rw (accepted-unique a b) at g))
@@ -135,7 +135,7 @@ fronts-are t n e f o =
 
 module _ {s n e f : List ℕ} where
   pub read-frame : {r : TextReading} {n′ e′ f′ : List ℕ} → Read s n e f r n′ e′ f′ → refuses (r .answer) ≡ true
-      → (r ≡ readingOf (r .answer) nothing) × (n′ ≡ n) × (e′ ≡ e) × (f′ ≡ f)
+      → (r ≡ readingOf (r .answer) noTables) × (n′ ≡ n) × (e′ ≡ e) × (f′ ≡ f)
   read-frame (wrong-text x p) c = (refl, refl, refl, refl)
   read-frame (no-room a k) c = (refl, refl, refl, refl)
   read-frame (took a h) c = absurd (false≢true c)
@@ -161,8 +161,8 @@ module _ {s n e f : List ℕ} where
 sized : {w lo hi : ℕ} {x : Table} → Small (x .numbers) → SizeRule w lo hi x → LendableTable w lo hi x
 sized s r = record { small = s; whole = r .whole; least = r .least; most = r .most }
 
--- [demand 2] "tables written as text read back the same": the bytes that write text leaves are the text of these
--- tables, and read text, given room, leaves them
+-- [demand 2] "Tables written as text read back as the same tables": the bytes that write text leaves are the text of
+-- these tables, and read text, given room, leaves them
 module _ {t : Tables} {out : List ℕ} {a : Answer} {out′ : List ℕ} (w : Written t out a out′) (c : refuses a ≡ false)
     (start : t .start ≤ Now) (nodes : Small (t .nodes .numbers)) (edges : Small (t .edges .numbers))
     (refs : Small (t .refs .numbers)) where

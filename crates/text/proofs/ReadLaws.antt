@@ -25,8 +25,8 @@ use Rattle.text.specs.declared.forms.Counts.{Counts}
 use Rattle.text.specs.declared.read.TextReading.{TextReading}
 use Rattle.text.specs.Forms.{counted, countsOf, nodeKey, edgeKey, refKey, nodeForm, edgeForm, refForm}
 use Rattle.text.specs.Reads.{headPlan, rowsPlan, whole, readText, shortSays, Announced, Held}
-use Rattle.text.specs.Answers.{Accepted, nothing, readingOf, Fits, TooShort, nodes-short, edges-short, refs-short}
-use Rattle.text.specs.Answers.{Read, wrong-text, no-room, took}
+use Rattle.text.specs.Answers.{Accepted, noTables, readingOf, Fits, TooShort, nodes-short, edges-short}
+use Rattle.text.specs.Answers.{refs-short, Read, wrong-text, no-room, took}
 use Rattle.text.proofs.RoundTrip.{refused, not-of-form, write-of-read}
 use Rattle.text.proofs.ScanLaws.{rowsAt, read-counted, scan-all}
 
@@ -73,10 +73,10 @@ module _ (s : List ℕ) (c : Counts) (at : ℕ) where
 -- each table is filled from where the one before it ends
 module _ {s : List ℕ} {at : ℕ} {c : Counts} {n e f : List ℕ} (x : Announced s at c n e f) where
   abbrev told : Tables
-  told = gotOf nothing (rowsAt s c at)
+  told = gotOf noTables (rowsAt s c at)
 
   right : RowsRight s c at told
-  right = rows-right s c at told (placeOf (rowsAt s c at)) (x .reached) (is-got nothing (rowsAt s c at) (x .good))
+  right = rows-right s c at told (placeOf (rowsAt s c at)) (x .reached) (is-got noTables (rowsAt s c at) (x .good))
 
   pub fill-nodes : FillableLines nodeKey nodeForm s (c .nodes) at n
   fill-nodes = record { reached = x .reached; room = x .nodes; good = right .nodes; shown = refl }
@@ -161,7 +161,7 @@ module _ (t : Tables) (n e f : List ℕ) where
 
 -- ---- what is left, case by case
 
-pub read-wrong : {s n e f : List ℕ} {r : TextReading} {p : ℕ} → readText s ≡ wrong p → r ≡ readingOf (Text p) nothing
+pub read-wrong : {s n e f : List ℕ} {r : TextReading} {p : ℕ} → readText s ≡ wrong p → r ≡ readingOf (Text p) noTables
     → Read s n e f r n e f
 read-wrong {s} {n} {e} {f} {p = p} w g =
     subst⁻¹ (λ (q : TextReading). Read s n e f q n e f) g (wrong-text (not-of-form s p w) (refused s p w))
@@ -183,7 +183,7 @@ module _ {s : List ℕ} {c : Counts} {at : ℕ} {head : planAt headPlan s 0 ≡ 
   room-fits {n} {e} {f} says w = room-there (x .tables) n e f (ap refuses (sym (room-is n e f says)) ∙ w)
 
   pub room-short : {n e f : List ℕ} {room : Answer} {r : TextReading} → room ≡ asked c n e f → refuses room ≡ true
-      → r ≡ readingOf room nothing → Read s n e f r n e f
+      → r ≡ readingOf room noTables → Read s n e f r n e f
   room-short {n} {e} {f} says w g =
       let t = x .tables in
       let is = room-is n e f says in
@@ -207,13 +207,13 @@ module _ {s : List ℕ} {c : Counts} {at : ℕ} {head : planAt headPlan s 0 ≡ 
 
   -- the counts that the first lines tell are those of the tables
   pub room-taken : {n e f n′ e′ f′ : List ℕ} {room : Answer} → room ≡ asked c n e f → refuses room ≡ false
-      → Held (gotOf nothing (rowsAt s c at)) n e f n′ e′ f′
+      → Held (gotOf noTables (rowsAt s c at)) n e f n′ e′ f′
       → Read s n e f
       (record { answer = room; start = c .start; nodes = c .nodes; edges = c .edges; refs = c .refs }) n′ e′ f′
   room-taken {n} {e} {f} says w h₀ =
       let t = x .tables in
       let fits : Fits t n e f = room-fits says w in
-      let h = rw (got-of nothing _ (x .got-rows)) at h₀ in
+      let h = rw (got-of noTables _ (x .got-rows)) at h₀ in
       rw (
         room-is n e f says ∙ judged-fits t n e f fits,
         h .nodes ∙ sets-front n (t .nodes .numbers) (fits .nodes),

@@ -111,7 +111,7 @@ goes-past s p e t j n o st =
 
 -- ---- the theorems
 
--- [demand 2] "tables written as text read back the same"
+-- [demand 2] "Tables written as text read back as the same tables"
 pub read-of-write : (t : Tables) → Lendable t → readText (textOf t) ≡ got t (length (textOf t))
 unfolding readText
 read-of-write t o =

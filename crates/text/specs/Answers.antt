@@ -13,7 +13,7 @@ use Rattle.text.specs.declared.read.TextReading.{TextReading}
 use Rattle.text.specs.Text.{Lendable, textLines, textOf}
 
 -- [01:What the calls answer] Write text "judges table sizes only: 1, then 32. Otherwise place is the byte count, and
--- bytes after it are unchanged."; "TEXTROOM: text output too short; place: bytes needed"; "No refusal writes to a
+-- bytes after it are unchanged."; TEXTROOM "text output too short", "place: bytes needed"; "No refusal writes to a
 -- lent table or buffer."
 module _ (t : Tables) (out : List ℕ) where
   pub data Written : Answer → List ℕ → Type 0 where
@@ -28,7 +28,7 @@ pub record Accepted (s : List ℕ) (t : Tables) : Type 0 where
   pub lendable : Lendable t
   pub text : s ≡ textOf t
 
--- [01:What the calls answer] "TEXT: text is not of the form"
+-- [01:What the calls answer] TEXT "text is not of the form"
 abbrev pub NotOfForm : List ℕ → Type 0
 NotOfForm s = (t : Tables) → Accepted s t → ⊥
 
@@ -44,8 +44,8 @@ pub record FirstWrong (s : List ℕ) (p : ℕ) : Type 0 where
   pub furthest : (t : Tables) (j n : ℕ) → Lendable t → Stands s 0 (firstLines j t) n → n ≤ p
 
 -- [01:What the calls answer] "the answer also carries start and three counts, which are 0 on refusal"
-abbrev pub nothing : Tables
-nothing = lent 0 [] 0 [] 0 [] 0
+abbrev pub noTables : Tables
+noTables = lent 0 [] 0 [] 0 [] 0
 
 abbrev pub readingOf : Answer → Tables → TextReading
 readingOf a t =
@@ -69,8 +69,9 @@ module _ (t : Tables) (n e f : List ℕ) where
 -- refusal."; "No refusal writes to a lent table or buffer." A text of the form has a `FirstWrong` too, its length, so
 -- TEXT asks for both.
 pub data Read (s n e f : List ℕ) : TextReading → List ℕ → List ℕ → List ℕ → Type 0 where
-  wrong-text : {p : ℕ} → NotOfForm s → FirstWrong s p → Read s n e f (readingOf (Text p) nothing) n e f
-  no-room : {t : Tables} {k : ℕ} → Accepted s t → TooShort t n e f k → Read s n e f (readingOf (Room 0 k) nothing) n e f
+  wrong-text : {p : ℕ} → NotOfForm s → FirstWrong s p → Read s n e f (readingOf (Text p) noTables) n e f
+  no-room : {t : Tables} {k : ℕ} → Accepted s t → TooShort t n e f k
+      → Read s n e f (readingOf (Room 0 k) noTables) n e f
   took : {t : Tables} → Accepted s t → Fits t n e f
       → Read s n e f (readingOf passed t) (front (t .nodes .numbers) n) (front (t .edges .numbers) e)
       (front (t .refs .numbers) f)

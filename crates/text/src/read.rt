@@ -6,7 +6,7 @@ ghost use Rattle.tables.specs.Tables.{nodeWidth, edgeWidth, refWidth};
 ghost use Rattle.lines.specs.Reads.{got, endedOf, gotOf, thenEnded};
 ghost use Rattle.lines.specs.Plans.{planAt};
 ghost use Rattle.text.specs.Reads.{headPlan, rowsPlan, valueOf, headOf, whole, endAt, shortSays, Announced, Held};
-ghost use Rattle.text.specs.Answers.{nothing, readingOf, Read};
+ghost use Rattle.text.specs.Answers.{noTables, readingOf, Read};
 use super::forms::Counts;
 use super::forms::EDGE_FORM;
 use super::forms::EDITION;
@@ -45,7 +45,7 @@ enum Head {
 }
 
 fn refusal(answer: Answer) -> TextReading
-    ensures { λ r. ⌜ r ≡ readingOf answer nothing ⌝ }
+    ensures { λ r. ⌜ r ≡ readingOf answer noTables ⌝ }
 {
     TextReading {
         answer,
@@ -143,7 +143,7 @@ fn fill_rows(
     refs: &mut [u32],
 )
     requires { ⌜ Announced (now text) at c (now nodes) (now edges) (now refs) ⌝ }
-    ensures { λ _. ⌜ Held (gotOf nothing (planAt (rowsPlan c) (now (text .entry)) at)) (now (nodes .entry))
+    ensures { λ _. ⌜ Held (gotOf noTables (planAt (rowsPlan c) (now (text .entry)) at)) (now (nodes .entry))
         (now (edges .entry)) (now (refs .entry)) (now (nodes .exit)) (now (edges .exit)) (now (refs .exit)) ⌝ }
 {
     let i = fill_lines(text, at, b"node=", NODE_FORM, c.nodes, nodes);

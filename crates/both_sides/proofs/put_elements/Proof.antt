@@ -1,18 +1,18 @@
 use borrow.Author.Needs.{needs}
 use Prim.Native.Nat.{_≤_, _-_}
 use lib.ListN.{length}
-use Rattle.both_sides.proofs.CaseLaws.{Filled, filled-start, filled-step}
+use Rattle.both_sides.proofs.CaseLaws.{ElementsPut, elements-start, elements-step}
 use Rattle.both_sides.proofs.put_elements.Statement.{statement}
 use Rattle.both_sides.proofs.put_elements.Tie as tie
 
 abbrev Inv-loop : tie.InvT-loop
-Inv-loop nodes₀ i₀ nodes i = (i ≤ length nodes₀) × Filled nodes₀ nodes i
+Inv-loop nodes₀ i₀ nodes i = (i ≤ length nodes₀) × ElementsPut nodes₀ nodes i
 
 abbrev μ-loop : tie.MeasureT-loop
 μ-loop nodes₀ i₀ nodes i = length nodes₀ - i
 
 loop-holds : tie.Need-loop-holds Inv-loop μ-loop
-loop-holds c = (search needs, filled-start _)
+loop-holds c = (search needs, elements-start _)
 
 element-number-requires : tie.Need-element-number-requires Inv-loop μ-loop
 element-number-requires c κs = search needs
@@ -32,7 +32,7 @@ loop-less c = search needs
 loop-again : tie.Need-loop-again Inv-loop μ-loop
 loop-again c =
     let turn = c .before .before .loop in
-    (search needs, filled-step _ _ _ _ (turn .inv .1) (search needs) (c .element-number .ensures))
+    (search needs, elements-step _ _ _ _ (turn .inv .1) (search needs) (c .element-number .ensures))
 
 same-length : tie.Need-same-length Inv-loop μ-loop
 same-length c = search needs

@@ -35,8 +35,11 @@ same-text : (c : tie.After-bw-write-text) → let call = c .bw-write-text in
 same-text c =
     let e = unrefused c in
     let r = read e in
-    again zeros-most (r .bw-read-text .ensures) (e .if1 .left) (c .before .before .before .before .before .before .first-rows .ensures)
-    (c .before .before .before .before .first-rows2 .ensures) (c .before .before .first-rows3 .ensures) (c .bw-write-text .ensures) (start r .pre)
+    let rows = c .before .before .before .before .before .before .first-rows .ensures in
+    let rows₂ = c .before .before .before .before .first-rows2 .ensures in
+    let rows₃ = c .before .before .first-rows3 .ensures in
+    again zeros-most (r .bw-read-text .ensures) (e .if1 .left) rows rows₂ rows₃ (c .bw-write-text .ensures)
+    (start r .pre)
 
 slice-aggregate-bw-read-text : tie.Need-slice-aggregate-bw-read-text
 slice-aggregate-bw-read-text c = search needs
@@ -101,8 +104,10 @@ returns-2 : tie.Need-returns-2
 returns-2 c =
     let w = c .before .before .before .before .before .before in
     let e = unrefused w in
-    report-counted (c .report2 .ensures)
-    (λ _. form-read zeros-most (read e .bw-read-text .ensures) (e .if1 .left), λ _. c .before .same .ensures .1 (same-text w .1))
+    report-counted (c .report2 .ensures) (
+      λ _. form-read zeros-most (read e .bw-read-text .ensures) (e .if1 .left),
+      λ _. c .before .same .ensures .1 (same-text w .1),
+    )
 
 pub read-is-written-spec : {M : Type 1} → statement M
 read-is-written-spec =

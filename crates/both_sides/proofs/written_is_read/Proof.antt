@@ -9,8 +9,8 @@ use denote.Ref.{now}
 use Rattle.tables.specs.Tables.{nodeWidth, edgeWidth, refWidth}
 use Rattle.bindlewort.specs.Given.{slices}
 use Rattle.both_sides.proofs.CaseLaws.{differs, report-counted, counts-one}
-use Rattle.both_sides.proofs.TextLaws.{zeros-most, rows-fit, tables-written, tables-unwritten, text-fits, Back}
-use Rattle.both_sides.proofs.TextLaws.{back}
+use Rattle.both_sides.proofs.TextLaws.{zeros-most, rows-fit, tables-written, tables-unwritten, text-fits}
+use Rattle.both_sides.proofs.TextLaws.{CameBack, back}
 use Rattle.both_sides.proofs.written_is_read.Statement.{statement}
 use Rattle.both_sides.proofs.written_is_read.Tie as tie
 
@@ -32,7 +32,7 @@ start c = known c .before .before .before
 
 -- what was read is what was written
 same : (c : tie.After-bw-read-text) → let x = start (written (unrefused c)) .args in let call = c .bw-read-text in
-    Back (slices (x .start) (now (x .nodes)) (now (x .edges)) (now (x .refs))) (call .result) (call .last .1 .0)
+    CameBack (slices (x .start) (now (x .nodes)) (now (x .edges)) (now (x .refs))) (call .result) (call .last .1 .0)
     (call .last .1 .1 .0) (call .last .1 .1 .1 .0)
 same c =
     let e = unrefused c in

@@ -4,7 +4,7 @@ use denote.Ref.{now}
 use borrow.Author.Needs.{needs}
 use Rattle.answers.specs.declared.Kind.{Kind}
 use Rattle.answers.specs.declared.Answer.{Answer}
-use Rattle.answers.specs.Refusals.{afterGap}
+use Rattle.answers.specs.Kinds.{afterGap}
 use Rattle.faults.specs.Judged.{Rest}
 use Rattle.faults.proofs.JudgeLaws.{outside-found, cycle-found, late-found, dangling-found, rest-found, rest-on}
 use Rattle.faults.proofs.JudgeLaws.{rest-none}

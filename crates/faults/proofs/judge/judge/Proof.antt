@@ -7,7 +7,7 @@ use borrow.Author.Needs.{needs}
 use Rattle.ground.specs.Searches.{least}
 use Rattle.answers.specs.declared.Answer.{Answer}
 use Rattle.answers.specs.declared.Kind.the-variants.{Overlap, Gap}
-use Rattle.answers.specs.Refusals.{kinds}
+use Rattle.answers.specs.Kinds.{kinds}
 use Rattle.history.specs.Faults.{History, historyOf}
 use Rattle.history.specs.Places.{places}
 use Rattle.history.specs.Computed.{holds, say}
