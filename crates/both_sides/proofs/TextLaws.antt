@@ -1,6 +1,6 @@
 -- What read text and write text come to one after the other, by what each promises: `reads` and `writes` are what
 -- bw_read_text and bw_write_text ensure.
---   Most          lent tables as long as the sizes allow; zeros-most: those of the program
+--   zeros-most    the tables of the program are as long as the sizes allow
 --   form-read, form-unread             into these, read text answers 0 exactly if the text is of the form
 --   rows-fit      the rows that were read are within what was lent
 --   again         what was read is written again as the same text
@@ -13,18 +13,18 @@ use mathlib.Core.Bool.{false, false≢true}
 use mathlib.Core.Logic.{_≢_}
 use mathlib.Core.List.{List}
 use Prim.Native.Nat.{ℕ, _*_, _≤_}
-use native.Mathlib.Omega.{arith}
-use lib.ListN.{length, length-append, take, drop, replicate}
+use lib.ListN.{length, take, drop, replicate}
 use lib.Seq.{take-append-seam}
 use Rattle.ground.specs.Lists.{front}
 use Rattle.answers.specs.declared.Answer.{Answer}
 use Rattle.answers.specs.Numbers.{Numbers, numbers, refuses, passed}
 use Rattle.tables.specs.Tables.{Now, nodeWidth, edgeWidth, refWidth, Table, Tables}
-use Rattle.tables.specs.Rules.{mostNodes, mostEdges, mostRefs, Whole, Sizes}
+use Rattle.tables.specs.Rules.{mostNodes, mostEdges, mostRefs, Whole}
 use Rattle.text.specs.Text.{Small, textOf}
-use Rattle.text.specs.Answers.{Written, out-of-size, short, wrote, Accepted, Fits, readingOf}
+use Rattle.text.specs.Answers.{Written, out-of-size, short, wrote, Accepted, readingOf}
 use Rattle.text.proofs.TieLaws.{sizes-of}
-use Rattle.text.proofs.PromiseLaws.{read-accepted, read-fronts, write-unique, write-holds}
+use Rattle.text.proofs.RoomLaws.{Most, most-fits, front-long, read-fits}
+use Rattle.text.proofs.PromiseLaws.{counted-front, read-accepted, read-fronts, write-unique, write-holds}
 use Rattle.bindlewort.specs.declared.Answered.{Answered}
 use Rattle.bindlewort.specs.declared.Reading.{Reading}
 use Rattle.bindlewort.specs.Given.{slices, Retold, Leaves, Reads}
@@ -32,35 +32,14 @@ use Rattle.bindlewort.proofs.GivenLaws.{told-code, told-done, written-place}
 use Rattle.bindlewort.proofs.Demands.{written-reads-back, read-writes-again}
 use Rattle.both_sides.specs.Cases.{OfForm, CanWrite}
 
-pub record Most (n e f : List ℕ) : Type 0 where
-  pub nodes : length n ≡ mostNodes * nodeWidth
-  pub edges : length e ≡ mostEdges * edgeWidth
-  pub refs : length f ≡ mostRefs * refWidth
-
 pub zeros-most : Most (replicate (mostNodes * nodeWidth) 0) (replicate (mostEdges * edgeWidth) 0)
     (replicate (mostRefs * refWidth) 0)
 zeros-most = record { nodes = refl; edges = refl; refs = refl }
 
-most-fits : {t : Tables} {n e f : List ℕ} → Most n e f → Sizes t → Fits t n e f
-most-fits m s =
-    record {
-      nodes = omega (arith, s .nodes .whole, s .nodes .most);
-      edges = omega (arith, s .edges .whole, s .edges .most);
-      refs = omega (arith, s .refs .whole, s .refs .most);
-    }
-
--- rows, k of w numbers each, that fill the front of what was lent: they are within it, and are found there
-front-long : (xs old : List ℕ) → length xs ≤ length (front xs old)
-front-long xs old = omega (arith, length-append xs (drop (length xs) old))
-
-front-fits : (w : ℕ) {k : ℕ} {left : List ℕ} (x : Table) (old : List ℕ) → Whole w x → k ≡ x .count
-    → left ≡ front (x .numbers) old → k * w ≤ length left
-front-fits w x old whole c e = rw (c, e, ← whole) (front-long (x .numbers) old)
-
+-- rows, k of w numbers each, that fill the front of what was lent are found there
 front-rows : (w : ℕ) {k : ℕ} {left : List ℕ} (x : Table) (old : List ℕ) → Whole w x → k ≡ x .count
     → left ≡ front (x .numbers) old → take (k * w) left ≡ x .numbers
-front-rows w x old whole c e =
-    rw (c, e, ← whole) (take-append-seam (x .numbers) (drop (length (x .numbers)) old))
+front-rows w x old whole c e = rw (c, e) (counted-front w x old whole)
 
 can-write : {L : Tables} {out out′ : List ℕ} {a : Answer} → Written L out a out′ → refuses a ≡ false → CanWrite L out
 can-write (out-of-size g) c = absurd (false≢true (sym c))
@@ -91,13 +70,8 @@ module _ {s n e f : List ℕ} {r : Reading} {n′ e′ f′ : List ℕ} (most : 
   pub rows-fit : r .answer .code ≡ 0
       → (r .nodes * nodeWidth ≤ length n′) × (r .edges * edgeWidth ≤ length e′) × (r .refs * refWidth ≤ length f′)
   rows-fit z =
-      let (t, a) = form-read z in
-      let o = sizes-of (a .lendable) in
-      let (g, i, j, k) = read-as a in (
-        front-fits nodeWidth (t .nodes) n (o .nodes .whole) (g .nodes) i,
-        front-fits edgeWidth (t .edges) e (o .edges .whole) (g .edges) j,
-        front-fits refWidth (t .refs) f (o .refs .whole) (g .refs) k,
-      )
+      let (x, p, g) = reads in
+      rw (g .nodes, g .edges, g .refs) (read-fits p (told-done (r .answer) (x .answer) (g .answer) z))
 
   -- what was read, written again
   module _ (z : r .answer .code ≡ 0) {ns es fs : List ℕ} (i : ns ≡ take (r .nodes * nodeWidth) n′)

@@ -1,69 +1,42 @@
 -- What the program says, from what its two calls leave; and that it says one thing of each text.
 --   unread-says   a refusal of read text is of the text: tables as long as the sizes allow have room for all that is
 --                 read
---   read-fits     where read text did not refuse, each lent table is long enough for its rows
 --   read-says     what check says of the fronts of these tables, it says of the tables that were read
 --   put-printed   three lines, put one after the other, are what is printed; printed-most: how long they are
 -- Assumes nothing.
 use native.Mathlib.Omega.{arith}
-use mathlib.Core.Path.{_≡_, sym, ap}
+use mathlib.Core.Path.{_≡_, ap}
 use mathlib.Core.Bool.{true, false, false≢true}
 use mathlib.Core.Logic.{⊎-elim}
 use mathlib.Core.List.{List}
-use Prim.Native.Nat.{ℕ, _*_, _≤_}
-use lib.ListN.{length, length-append, drop}
+use Prim.Native.Nat.{ℕ, _≤_}
 use Rattle.ground.specs.Stores.{Put}
-use Rattle.ground.specs.Lists.{bytes, joined, front}
+use Rattle.ground.specs.Lists.{bytes, joined}
 use Rattle.ground.proofs.ListLaws.{put-nil, put-append}
 use Rattle.answers.specs.declared.Answer.{Answer}
 use Rattle.answers.specs.declared.Answer.the-variants.{Text}
 use Rattle.answers.specs.Numbers.{numbers, refuses}
-use Rattle.tables.specs.Tables.{Now, nodeWidth, edgeWidth, refWidth, Tables}
-use Rattle.tables.specs.Rules.{mostNodes, mostEdges, mostRefs}
+use Rattle.tables.specs.Tables.{Now}
 use Rattle.lines.specs.Lines.{numberText, numbersText, oneLine}
 use Rattle.lines.proofs.WriteLaws.{one-short}
 use Rattle.text.specs.declared.read.TextReading.{TextReading}
-use Rattle.text.specs.Text.{Lendable, commas}
-use Rattle.text.specs.Answers.{Fits, Read, wrong-text, no-room, took}
+use Rattle.text.specs.Text.{commas}
+use Rattle.text.specs.Answers.{Read, wrong-text, no-room, took}
+use Rattle.text.proofs.TieLaws.{sizes-of}
+use Rattle.text.proofs.RoomLaws.{Most, most-fits}
 use Rattle.text.proofs.RoundTrip.{accepted-unique, accepted-or-not, place-unique}
 use Rattle.text.proofs.PromiseLaws.{short-not-fits, fronts, read-fronts}
 use Rattle.verdict.specs.Checked.{Checked}
 use Rattle.verdict.proofs.CheckedLaws.{checked-unique, checked-exists}
 use Rattle.check_history.specs.Says.{Says, unread, read, printed, mostOutput}
 
-most-fits : (t : Tables) {n e f : List ℕ} → Lendable t → length n ≡ mostNodes * nodeWidth
-    → length e ≡ mostEdges * edgeWidth
-    → length f ≡ mostRefs * refWidth
-    → Fits t n e f
-most-fits t o x y z =
-    record {
-      nodes = omega (arith, o .nodes .whole, o .nodes .most);
-      edges = omega (arith, o .edges .whole, o .edges .most);
-      refs = omega (arith, o .refs .whole, o .refs .most);
-    }
-
-front-fits : (old vs : List ℕ) → length vs ≤ length (front vs old)
-front-fits old vs = omega (arith, length-append vs (drop (length vs) old))
-
 module _ {s n e f : List ℕ} where
-  pub unread-says : {r : TextReading} {n′ e′ f′ : List ℕ} → Read s n e f r n′ e′ f′ → length n ≡ mostNodes * nodeWidth
-      → length e ≡ mostEdges * edgeWidth
-      → length f ≡ mostRefs * refWidth
+  pub unread-says : {r : TextReading} {n′ e′ f′ : List ℕ} → Read s n e f r n′ e′ f′ → Most n e f
       → refuses (r .answer) ≡ true
       → Says s (r .answer)
-  unread-says (wrong-text x p) i j k c = unread x p
-  unread-says (no-room {t} a x) i j k c = absurd (short-not-fits x (most-fits t (a .lendable) i j k))
-  unread-says (took a h) i j k c = absurd (false≢true c)
-
-  pub read-fits : {r : TextReading} {n′ e′ f′ : List ℕ} → Read s n e f r n′ e′ f′ → refuses (r .answer) ≡ false
-      → (r .nodes * nodeWidth ≤ length n′) × (r .edges * edgeWidth ≤ length e′) × (r .refs * refWidth ≤ length f′)
-  read-fits (wrong-text x p) c = absurd (false≢true (sym c))
-  read-fits (no-room a x) c = absurd (false≢true (sym c))
-  read-fits (took {t} a h) c = (
-    omega (arith, front-fits n (t .nodes .numbers)),
-    omega (arith, front-fits e (t .edges .numbers)),
-    omega (arith, front-fits f (t .refs .numbers)),
-  )
+  unread-says (wrong-text x p) m c = unread x p
+  unread-says (no-room a x) m c = absurd (short-not-fits x (most-fits m (sizes-of (a .lendable))))
+  unread-says (took a h) m c = absurd (false≢true c)
 
   pub read-says : {r : TextReading} {n′ e′ f′ : List ℕ} {a : Answer} → Read s n e f r n′ e′ f′
       → refuses (r .answer) ≡ false

@@ -5,4 +5,5 @@ pub mod SizeLaws
 pub mod WriteLaws
 pub mod ScanLaws
 pub mod ReadLaws
+pub mod RoomLaws
 pub mod PromiseLaws

@@ -117,7 +117,7 @@ fronts r n e f =
     (take (r .refs * refWidth) f) (r .refs)
 
 -- the counted rows at the front of a table that the rows of x fill
-counted-front : (w : ℕ) (x : Table) (old : List ℕ) → Whole w x
+pub counted-front : (w : ℕ) (x : Table) (old : List ℕ) → Whole w x
     → take (x .count * w) (front (x .numbers) old) ≡ x .numbers
 counted-front w x old e =
     ap (λ (i : ℕ). take i (front (x .numbers) old)) (sym e)

@@ -6,7 +6,8 @@ use lib.Seq.{length-take-le}
 use Rattle.answers.specs.Numbers.{refuses}
 use Rattle.tables.specs.Tables.{nodeWidth, edgeWidth, refWidth}
 use borrow.Author.Needs.{needs}
-use Rattle.check_history.proofs.SaysLaws.{unread-says, read-fits, read-says}
+use Rattle.text.proofs.RoomLaws.{read-fits}
+use Rattle.check_history.proofs.SaysLaws.{unread-says, read-says}
 use Rattle.check_history.proofs.answer.Statement.{statement}
 use Rattle.check_history.proofs.answer.Tie as tie
 
@@ -39,7 +40,7 @@ refuses-requires c κs = search needs
 returns : tie.Need-returns
 returns c =
     let call = c .before .before .before .before .before .read-text in
-    unread-says (call .ensures) refl refl refl (sym (c .before .refuses .ensures) ∙ c .if1 .taken)
+    unread-says (call .ensures) (record { nodes = refl; edges = refl; refs = refl }) (sym (c .before .refuses .ensures) ∙ c .if1 .taken)
 
 cast-n : tie.Need-cast-n
 cast-n c = search needs
