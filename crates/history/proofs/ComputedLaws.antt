@@ -13,14 +13,14 @@ use Rattle.ground.specs.Searches.{any}
 use Rattle.ground.proofs.TestLaws.{tells-and, tells-or, tells-not, tells-le, tells-lt, tells-eq}
 use Rattle.ground.proofs.LeastLaws.{any-tells}
 use Rattle.tables.specs.declared.rows.Side.{Side}
-use Rattle.tables.specs.Tables.{During, EdgeRow}
+use Rattle.tables.specs.Tables.{During, EdgeRow, RefRow}
 use Rattle.tables.specs.Rows.{sideOf}
 use Rattle.tables.proofs.LabelLaws.{during-tells}
 use Rattle.history.specs.Faults.{History, Into, Out, Ended, Coming, NoneInto, Present, Chain, Overlap, Gap}
-use Rattle.history.specs.Faults.{Outside, Cycle, Refers}
+use Rattle.history.specs.Faults.{Outside, Cycle, RefersFrom, Refers}
 use Rattle.history.specs.Places.{Leads, NodesBelow, Astray}
 use Rattle.history.specs.Computed.{isInto, isOut, hasEnded, isComing, isPresent, reaches, overlaps, hasGap}
-use Rattle.history.specs.Computed.{isOutside, cycles, isReferring, isAstray}
+use Rattle.history.specs.Computed.{isOutside, cycles, refersFrom, isReferring, isAstray}
 use Rattle.history.proofs.Chains.{shorten}
 
 module _ (m : ℕ) (E : ℕ → EdgeRow) (t : ℕ) where
@@ -152,6 +152,9 @@ module _ (m : ℕ) (E : ℕ → EdgeRow) (t : ℕ) where
     where
       short : (a : ℕ) → (js : List ℕ) × (length js < N) × Chain m E t n a js → Within N n a
       short a (js, l, c) = (js, omega arith, c)
+
+pub refers-from-tells : (R : ℕ → RefRow) (t a k : ℕ) → Tells (refersFrom R t a k) (RefersFrom R t a k)
+refers-from-tells R t a k = tells-and _ _ (tells-eq (R k .attribute) a) (during-tells _ _ t)
 
 module _ (H : History) (t : ℕ) where
   refers-tells : (k : ℕ) → Tells (isReferring H t k) (Refers H t k)

@@ -5,6 +5,7 @@
 --   isPresent, isHere    n is present; in a history
 --   reaches              a chain of at most k rows leads from one node to another
 --   overlaps, hasGap, isOutside, cycles   the lines of the table that are of nodes
+--   refersFrom           reference row k is from a node, and in force
 --   isReferring          reference row k is in force
 --   isAstray             reference row k is in force, and the node at one of its ends is not present
 --   holds                the table: a fault of a kind holds at t, at a place
@@ -31,7 +32,7 @@ use Rattle.answers.specs.Refusals.{fault, _⨾_}
 use Rattle.answers.specs.Numbers.{refuses, passed}
 use Rattle.tables.specs.declared.rows.Side.{Side}
 use Rattle.tables.specs.declared.rows.Side.the-variants.{Attribute, Target}
-use Rattle.tables.specs.Tables.{Now, EdgeRow}
+use Rattle.tables.specs.Tables.{Now, EdgeRow, RefRow}
 use Rattle.tables.specs.Labels.{during}
 use Rattle.tables.specs.Rows.{sideOf}
 use Rattle.tables.specs.Says.{smallest}
@@ -74,6 +75,9 @@ module _ (m : ℕ) (E : ℕ → EdgeRow) (t : ℕ) where
   -- a cycle through n has no more rows than there are nodes
   abbrev pub cycles : ℕ → ℕ → Bool
   cycles nodes n = any (λ i. let back = reaches nodes n (E i .parent) in isInto n i && back) m
+
+abbrev pub refersFrom : (ℕ → RefRow) → ℕ → ℕ → ℕ → Bool
+refersFrom R t a k = eqb (R k .attribute) a && during (R k .from) (R k .to) t
 
 module _ (H : History) (t : ℕ) where
   abbrev pub isReferring : ℕ → Bool

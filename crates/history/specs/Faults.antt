@@ -86,6 +86,10 @@ module _ (m : ℕ) (E : ℕ → EdgeRow) (t : ℕ) where
   abbrev pub Cycle : ℕ → Type 0
   Cycle n = (i : ℕ) × (is : List ℕ) × Chain n n (i ∷ is)
 
+-- Of the reference rows R, at the instant t: row k is from a, and in force
+abbrev pub RefersFrom : (ℕ → RefRow) → ℕ → ℕ → ℕ → Type 0
+RefersFrom R t a k = (R k .attribute ≡ a) × During (R k .from) (R k .to) t
+
 module _ (H : History) (t : ℕ) where
   -- reference row k is in force
   abbrev pub Refers : ℕ → Type 0

@@ -8,22 +8,22 @@ use native.Mathlib.Numerals.{add-one}
 use native.Mathlib.Omega.{arith}
 use lib.ListN.{length}
 use borrow.Author.Tests.{lt-ltb, le-ltb}
-use Rattle.ground.specs.Tests.{Tells}
 use Rattle.ground.specs.Least.{Before, Smallest}
 use Rattle.ground.specs.Searches.{least}
-use Rattle.ground.proofs.TestLaws.{by-test, by-lt, tells-and, tells-eq, tells-fail}
+use Rattle.ground.proofs.TestLaws.{by-test, by-lt, tells-fail}
 use Rattle.ground.proofs.LeastLaws.{least-unique, least-tells, least-found, least-none, least-same}
 use Rattle.tables.specs.Tables.{noNode}
-use Rattle.tables.proofs.LabelLaws.{during-tells}
-use Rattle.history.specs.Faults.{History, Chain}
+use Rattle.history.specs.Faults.{History, Chain, RefersFrom}
 use Rattle.history.specs.Ruled.{Ruled}
+use Rattle.history.specs.Computed.{refersFrom}
 use Rattle.history.proofs.Chains.{long-cycle}
+use Rattle.history.proofs.ComputedLaws.{refers-from-tells}
 use Rattle.history.proofs.RuledLaws.{ruled-below}
 use Rattle.history.proofs.Tree.{Tree}
-use Rattle.snapshot.specs.Snapshot.{ShownRow, IsChild, RefersFrom, Referent, target, no-target, ChildFrom}
+use Rattle.snapshot.specs.Snapshot.{ShownRow, IsChild, Referent, target, no-target, ChildFrom}
 use Rattle.snapshot.specs.Snapshot.{Subtree, row, Children, no-more, next, ShownRows}
 use Rattle.snapshot.specs.Walk.{each, subtree}
-use Rattle.snapshot.specs.Says.{below, valueAt, refersFrom, referentAt, isChild, childrenOf, shownRows}
+use Rattle.snapshot.specs.Says.{below, valueAt, referentAt, isChild, childrenOf, shownRows}
 use Rattle.snapshot.proofs.WalkLaws.{each-append}
 use Rattle.snapshot.proofs.ChildLaws.{child-tells, child-below}
 
@@ -66,16 +66,13 @@ module _ (H : History) (t : ℕ) where
       ] _
 
   -- the computed referent
-  refers-tells : (n i : ℕ) → Tells (refersFrom (H .ref) t n i) (RefersFrom H t n i)
-  refers-tells n i = tells-and _ _ (tells-eq (H .ref i .attribute) n) (during-tells _ _ t)
-
   pub referent-shown : (n : ℕ) → Referent H t n (referentAt (H .refs) (H .ref) t n)
   unfolding valueAt
   referent-shown n =
       let k = least (refersFrom (H .ref) t n) (H .refs) in
-      let l = least-tells _ (RefersFrom H t n) (H .refs) (λ i h. refers-tells n i) in
+      let l = least-tells _ (RefersFrom (H .ref) t n) (H .refs) (λ i h. refers-from-tells (H .ref) t n i) in
       by-lt k (H .refs) (λ h. rw (lt-ltb k (H .refs) h) (target (l, h)))
-      (λ h. rw (le-ltb k (H .refs) h) (no-target (least-none (RefersFrom H t n) l h)))
+      (λ h. rw (le-ltb k (H .refs) h) (no-target (least-none (RefersFrom (H .ref) t n) l h)))
 
   -- the children from c on are c, where it is one, and those after c
   later : {n c : ℕ} → (IsChild H t n c → ⊥) → (k : ℕ) → ChildFrom H t n c k → ChildFrom H t n (suc c) k

@@ -3,7 +3,7 @@
 --   below        the numbers below a bound that pass a test, rising
 --   isChild      a row from one node to another is in force; childrenOf: a node's children
 --   valueAt      the number of the smallest row that passes a test
---   refersFrom   reference row i is in force from a node; referentAt: a node's referent
+--   referentAt   a node's referent
 --   shownRows    the rows of the root and of what it contains; rowsOf: their numbers
 --   instantSays, readySays   the refusals but ROOM, of tables that obey their rules and of any
 --   roomSays     21 or the number of rows; snapshotSays: the refusals of what is not ready, then that
@@ -20,11 +20,10 @@ use Rattle.answers.specs.declared.Answer.{Answer}
 use Rattle.answers.specs.declared.Answer.the-variants.{Done, Room, Early, Deep}
 use Rattle.answers.specs.Numbers.{refuses}
 use Rattle.answers.specs.Refusals.{when, _⨾_}
-use Rattle.tables.specs.Labels.{during}
 use Rattle.tables.specs.Tables.{RefRow, noNode, Tables}
 use Rattle.tables.specs.Says.{historySays}
 use Rattle.history.specs.Faults.{History, held}
-use Rattle.history.specs.Computed.{isInto, shownSay}
+use Rattle.history.specs.Computed.{isInto, refersFrom, shownSay}
 use Rattle.snapshot.specs.Snapshot.{ShownRow, shownWidth, shownNumbers}
 use Rattle.snapshot.specs.Walk.{subtree}
 use Rattle.snapshot.specs.Depth.{tooDeep}
@@ -38,9 +37,6 @@ unfoldable pub valueAt : (ℕ → Bool) → (ℕ → ℕ) → ℕ → ℕ
 valueAt p v m = cond (ltb (least p m) m) (v (least p m)) noNode
 
 -- of k reference rows R
-abbrev pub refersFrom : (ℕ → RefRow) → ℕ → ℕ → ℕ → Bool
-refersFrom R t n i = eqb (R i .attribute) n && during (R i .from) (R i .to) t
-
 abbrev pub referentAt : ℕ → (ℕ → RefRow) → ℕ → ℕ → ℕ
 referentAt k R t n = valueAt (refersFrom R t n) (λ i. R i .target) k
 

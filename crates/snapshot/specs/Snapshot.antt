@@ -10,9 +10,9 @@ use Rattle.answers.specs.declared.Fault.{Fault}
 use Rattle.answers.specs.declared.Answer.{Answer}
 use Rattle.answers.specs.declared.Answer.the-variants.{Done, Faulty, Room, Early, Deep}
 use Rattle.answers.specs.Numbers.{refuses}
-use Rattle.tables.specs.Tables.{During, noNode, Tables}
+use Rattle.tables.specs.Tables.{noNode, Tables}
 use Rattle.tables.specs.Rules.{Obeys, Gives}
-use Rattle.history.specs.Faults.{History, held, Into, Chain, First, GapAside}
+use Rattle.history.specs.Faults.{History, held, Into, Chain, RefersFrom, First, GapAside}
 
 -- [01:What the calls answer] DEEP "a chain in force at the instant has more than 1,023 rows"
 abbrev pub mostDeep : ℕ
@@ -39,15 +39,11 @@ module _ (H : History) (t : ℕ) where
   abbrev pub IsChild : ℕ → ℕ → Type 0
   IsChild p c = (i : ℕ) × Into (H .edges) (H .edge) t c i × (H .edge i .parent ≡ p)
 
-  -- reference row k is in force from n
-  abbrev pub RefersFrom : ℕ → ℕ → Type 0
-  RefersFrom n k = (H .ref k .attribute ≡ n) × During (H .ref k .from) (H .ref k .to) t
-
   -- [01:What the calls answer] "Referent is the target of the smallest reference row in force from that node, or
   -- 4,294,967,295 if there is none."
   pub data Referent (n : ℕ) : ℕ → Type 0 where
-    target : {k : ℕ} → Smallest (RefersFrom n) (H .refs) k → Referent n (H .ref k .target)
-    no-target : Before (RefersFrom n) (H .refs) → Referent n noNode
+    target : {k : ℕ} → Smallest (RefersFrom (H .ref) t n) (H .refs) k → Referent n (H .ref k .target)
+    no-target : Before (RefersFrom (H .ref) t n) (H .refs) → Referent n noNode
 
   -- node k is a child of n, and its number is c or more
   abbrev pub ChildFrom : ℕ → ℕ → ℕ → Type 0
