@@ -4,4 +4,5 @@ pub mod WalkLaws
 pub mod MarkLaws
 pub mod PartLaws
 pub mod LeafLaws
+pub mod RefLaws
 pub mod JudgeLaws

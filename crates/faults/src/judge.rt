@@ -18,14 +18,13 @@ ghost use Rattle.faults.specs.Judged.{Rest, Shows};
 use super::leaves::first_gap;
 use super::leaves::first_outside;
 use super::leaves::first_overlap;
-use super::leaves::first_stray;
+use super::refs::take_refs;
 use super::slots::take_rows;
 use super::walk::first_back;
 use answers::Answer;
 use answers::Fault;
 use answers::Kind;
 use tables::rows::NO_NODE;
-use tables::rows::Side;
 use tables::sizes::MOST_NODES;
 
 fn faulty(t: u32, kind: Kind, place: usize) -> Answer
@@ -49,13 +48,12 @@ fn after_gap(n: usize, refs: &[u32], k: usize, t: u32, up: &[u32]) -> Answer
     if back < n {
         return faulty(t, Kind::Cycle, back);
     }
-    let late = first_stray(refs, k, Side::Attribute, t, up);
-    if late < k {
-        return faulty(t, Kind::Late, late);
+    let found = take_refs(refs, k, t, up);
+    if found.late < k {
+        return faulty(t, Kind::Late, found.late);
     }
-    let dangling = first_stray(refs, k, Side::Target, t, up);
-    if dangling < k {
-        return faulty(t, Kind::Dangling, dangling);
+    if found.dangling < k {
+        return faulty(t, Kind::Dangling, found.dangling);
     }
     Answer::Done(0, 0)
 }

@@ -1,17 +1,13 @@
 // The leaves of the judge: the smallest place of a line of the table of faults, or the count of places where there is
-// none. One leaf serves LATE and DANGLING, and CYCLE has its own file.
+// none. The leaves of references are in refs.rt, and that of CYCLE in walk.rt.
 ghost use mathlib.Core.Path.{_≡_};
 ghost use Prim.Native.Nat.{_+_, _<_, _≤_};
 ghost use lib.ListN.{length};
 ghost use Rattle.ground.specs.Least.{Least};
 ghost use Rattle.ground.specs.Searches.{least};
-ghost use Rattle.tables.specs.Tables.{refAt};
-ghost use Rattle.faults.specs.Leaves.{isMany, isAbsent, isGap, Parts, Parting, isStray, Referring};
+ghost use Rattle.faults.specs.Leaves.{isMany, isAbsent, isGap, Parts, Parting};
 use super::slots::MANY;
 use tables::rows::NO_NODE;
-use tables::rows::Side;
-use tables::rows::ref_in_force;
-use tables::rows::ref_side;
 
 // OVERLAP: the smallest of n nodes whose slot is MANY.
 pub fn first_overlap(up: &[u32], n: usize) -> usize
@@ -28,7 +24,7 @@ pub fn first_overlap(up: &[u32], n: usize) -> usize
     n
 }
 
-fn is_absent(up: &[u32], c: usize) -> bool
+pub fn is_absent(up: &[u32], c: usize) -> bool
     requires { ⌜ c < length (now up) ⌝ }
     ensures { λ r. ⌜ r ≡ isAbsent (now (up .entry)) c ⌝ }
 {
@@ -84,19 +80,4 @@ pub fn first_outside(up: &[u32], n: usize) -> usize
         c += 1;
     }
     best
-}
-
-// LATE and DANGLING: the smallest of k reference rows in force whose node at one side is absent.
-pub fn first_stray(refs: &[u32], k: usize, side: Side, t: u32, up: &[u32]) -> usize
-    requires { ⌜ Referring (now refs) k (length (now up)) ⌝ }
-    ensures { λ r. ⌜ r ≡ least (λ j. isStray (now (up .entry)) t side (refAt (now (refs .entry)) j)) k ⌝ }
-{
-    let mut j = 0;
-    while j < k {
-        if ref_in_force(refs, j, t) & is_absent(up, ref_side(refs, j, side) as usize) {
-            return j;
-        }
-        j += 1;
-    }
-    k
 }

@@ -2,10 +2,12 @@
 -- nothing.
 use mathlib.Core.Path.{_≡_, refl, sym, subst, _∙_}
 use mathlib.Core.Logic.{_⊎_, inl, inr, ⊎-elim, _↔_, Iff·rfl, Iff·trans, Dec·not, Dec·not-not}
-use mathlib.Core.Bool.{Bool, true, false, cond, false≢true}
+use mathlib.Core.Bool.{Bool, true, false, cond, _&&_, false≢true}
 use Prim.Native.Nat.{ℕ, zero, suc, _+_, _≤_, _<_, min}
 use native.Mathlib.Decide.{ℕ-discrete, decLe, decLt}
 use native.Mathlib.Omega.{arith}
+use lib.Dec.{ltb}
+use borrow.Author.Tests.{ltb-true, ltb-false}
 use Rattle.ground.specs.Tests.{Tells}
 use Rattle.ground.specs.Least.{Any, Before, Least}
 use Rattle.ground.specs.Searches.{Passes, any, least}
@@ -94,6 +96,29 @@ least-same f g l =
       before = λ i h q. l .before i h (g i (omega (arith, l .within)) q);
       here = λ h. f _ h (l .here h);
     }
+
+-- the smallest number with P, or x where a test passes: the smaller of the two
+pub least-nearer : {P : ℕ → Type 0} {n best x : ℕ} (b : Bool) → x < n → Least P n best
+    → Least (λ i. P i ⊎ ((i ≡ x) × (b ≡ true))) n (cond (b && ltb x best) x best)
+least-nearer {P} {n} {best} {x} b h l = go b (ltb x best) refl
+  where
+    go : (b q : Bool) → ltb x best ≡ q → Least (λ i. P i ⊎ ((i ≡ x) × (b ≡ true))) n (cond (b && q) x best)
+    go true true e =
+        let near = ltb-true x best e in
+        least-found _ h (λ i g. ⊎-elim (l .before i (omega arith)) (λ w. omega (arith, w .0))) (inr (refl, refl))
+    go true false e =
+        let far = ltb-false x best e in
+        record {
+          within = l .within;
+          before = λ i g. ⊎-elim (l .before i g) (λ w. omega (arith, w .0));
+          here = λ g. inl (l .here g);
+        }
+    go false q e =
+        record {
+          within = l .within;
+          before = λ i g. ⊎-elim (l .before i g) (λ w. false≢true (w .1));
+          here = λ g. inl (l .here g);
+        }
 
 -- the greatest number below n with a property that can be decided, or that there is none
 abbrev pub Greatest : (ℕ → Type 0) → ℕ → ℕ → Type 0

@@ -28,19 +28,26 @@ past₂ : (c : tie.Else2) {a : Answer} → Says (start₂ c) (drop 2 afterGap) a
 past₂ c r =
     past₁ (c .before .before) (rest-on (cycle-found (c .before .first-back .ensures)) (λ s e m. c .if2 .left) r)
 
-abbrev start₃ : tie.Else3 → tie.Start
-start₃ c = start₂ (c .before .before)
+-- past the two kinds that the pass over the references finds
+abbrev past : tie.After-take-refs → tie.Else2
+past c = c .before
 
-past₃ : (c : tie.Else3) {a : Answer} → Says (start₃ c) (drop 3 afterGap) a → Says (start₃ c) afterGap a
+abbrev found₃ : tie.Else3 → tie.After-take-refs
+found₃ c = c .before .before
+
+abbrev found₄ : tie.Else4 → tie.After-take-refs
+found₄ c = found₃ (c .before .before)
+
+past₃ : (c : tie.Else3) {a : Answer} → let s = start₂ (past (found₃ c)) in
+    Says s (drop 3 afterGap) a → Says s afterGap a
 past₃ c r =
-    past₂ (c .before .before) (rest-on (late-found (c .before .first-stray .ensures)) (λ s e m. c .if3 .left) r)
+    past₂ (past (found₃ c)) (rest-on (late-found (found₃ c .take-refs .ensures .late)) (λ s e m. c .if3 .left) r)
 
-abbrev start₄ : tie.Else4 → tie.Start
-start₄ c = start₃ (c .before .before)
-
-past₄ : (c : tie.Else4) {a : Answer} → Says (start₄ c) (drop 4 afterGap) a → Says (start₄ c) afterGap a
+past₄ : (c : tie.Else4) {a : Answer} → let s = start₂ (past (found₄ c)) in
+    Says s (drop 4 afterGap) a → Says s afterGap a
 past₄ c r =
-    past₃ (c .before .before) (rest-on (dangling-found (c .before .first-stray2 .ensures)) (λ s e m. c .if4 .left) r)
+    past₃ (c .before .before)
+    (rest-on (dangling-found (found₄ c .take-refs .ensures .dangling)) (λ s e m. c .if4 .left) r)
 
 first-outside-requires : tie.Need-first-outside-requires
 first-outside-requires c κs = search needs
@@ -65,28 +72,26 @@ returns-2 c =
     (rest-found (cycle-found (c .before .before .first-back .ensures)) (λ s e m. c .before .if2 .taken)
     (c .faulty2 .ensures))
 
-first-stray-requires : tie.Need-first-stray-requires
-first-stray-requires c κs = search needs
+take-refs-requires : tie.Need-take-refs-requires
+take-refs-requires c κs = search needs
 
 faulty-requires-3 : tie.Need-faulty-requires-3
 faulty-requires-3 c κs = search needs
 
 returns-3 : tie.Need-returns-3
 returns-3 c =
-    past₂ (c .before .before .before)
-    (rest-found (late-found (c .before .before .first-stray .ensures)) (λ s e m. c .before .if3 .taken)
-    (c .faulty3 .ensures))
-
-first-stray-requires-2 : tie.Need-first-stray-requires-2
-first-stray-requires-2 c κs = search needs
+    let found = c .before .before .before in
+    past₂ (past found)
+    (rest-found (late-found (found .take-refs .ensures .late)) (λ s e m. c .before .if3 .taken) (c .faulty3 .ensures))
 
 faulty-requires-4 : tie.Need-faulty-requires-4
 faulty-requires-4 c κs = search needs
 
 returns-4 : tie.Need-returns-4
 returns-4 c =
-    past₃ (c .before .before .before)
-    (rest-found (dangling-found (c .before .before .first-stray2 .ensures)) (λ s e m. c .before .if4 .taken)
+    let later = c .before .before .before in
+    past₃ later
+    (rest-found (dangling-found (found₃ later .take-refs .ensures .dangling)) (λ s e m. c .before .if4 .taken)
     (c .faulty4 .ensures))
 
 returns-5 : tie.Need-returns-5
@@ -102,10 +107,9 @@ after-gap-spec =
     first-back-requires
     faulty-requires-2
     returns-2
-    first-stray-requires
+    take-refs-requires
     faulty-requires-3
     returns-3
-    first-stray-requires-2
     faulty-requires-4
     returns-4
     returns-5)

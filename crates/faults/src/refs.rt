@@ -1,0 +1,58 @@
+// One pass over the references at an instant: LATE and DANGLING.
+ghost use mathlib.Core.Path.{_≡_};
+ghost use mathlib.Core.Bool.{cond, _&&_};
+ghost use Prim.Native.Nat.{_+_};
+ghost use lib.Dec.{ltb};
+ghost use lib.ListN.{length};
+ghost use Rattle.faults.specs.Leaves.{Referring};
+ghost use Rattle.faults.specs.Refs.{Found, Finding, Leasts};
+use super::leaves::is_absent;
+use tables::rows::Side;
+use tables::rows::ref_in_force;
+use tables::rows::ref_side;
+
+// The smallest place of each kind, or the count of places where there is none.
+pub struct RefFaults {
+    pub late: usize,
+    pub dangling: usize,
+}
+
+// best, or x where the test passes and x is smaller.
+fn nearer(best: usize, passes: bool, x: usize) -> usize
+    ensures { λ r. ⌜ r ≡ cond (passes && ltb x best) x best ⌝ }
+{
+    if passes & (x < best) { x } else { best }
+}
+
+// Row j, after the rows before it.
+fn take_ref(refs: &[u32], k: usize, t: u32, up: &[u32], j: usize, found: RefFaults) -> RefFaults
+    requires { ⌜ Finding (now refs) k t (now up) j found ⌝ }
+    ensures { λ r. ⌜ Found (now (refs .entry)) k t (now (up .entry)) (j + 1) r ⌝ }
+{
+    if ref_in_force(refs, j, t) {
+        let attribute = ref_side(refs, j, Side::Attribute) as usize;
+        let target = ref_side(refs, j, Side::Target) as usize;
+        return RefFaults {
+            late: nearer(found.late, is_absent(up, attribute), j),
+            dangling: nearer(found.dangling, is_absent(up, target), j),
+        };
+    }
+    found
+}
+
+// All k rows.
+pub fn take_refs(refs: &[u32], k: usize, t: u32, up: &[u32]) -> RefFaults
+    requires { ⌜ Referring (now refs) k (length (now up)) ⌝ }
+    ensures { λ r. ⌜ Leasts (now (refs .entry)) k t (now (up .entry)) r ⌝ }
+{
+    let mut found = RefFaults {
+        late: k,
+        dangling: k,
+    };
+    let mut j = 0;
+    while j < k {
+        found = take_ref(refs, k, t, up, j, found);
+        j += 1;
+    }
+    found
+}
