@@ -13,7 +13,7 @@ use borrow.Author.Tests.{eqb-true, ltb-true, eq-eqb}
 use Rattle.ground.specs.Among.{isAmong}
 use Rattle.ground.proofs.TestLaws.{by-test, both}
 use Rattle.answers.specs.declared.Kind.{Kind}
-use Rattle.answers.specs.declared.Kind.the-variants.{Overlap, Gap, Outside, Cycle, Late, Dangling}
+use Rattle.answers.specs.declared.Kind.the-variants.{Overlap, Gap, Outside, Cycle, Late, Dangling, Double}
 use Rattle.answers.specs.Numbers.{codeOf}
 use Rattle.answers.specs.Kinds.{kinds}
 
@@ -33,6 +33,7 @@ kind-back Outside = refl
 kind-back Cycle = refl
 kind-back Late = refl
 kind-back Dangling = refl
+kind-back Double = refl
 
 pub code-unique : (j k : Kind) → codeOf j ≡ codeOf k → j ≡ k
 code-unique j k e = sym (kind-back j) ∙ ap kindOf e ∙ kind-back k

@@ -1,10 +1,10 @@
--- The numbers of document 01, by cases on the answer: the only definition that has them. Assumes nothing.
+-- The numbers of documents 01 and 02, by cases on the answer: the only definition that has them. Assumes nothing.
 use mathlib.Core.Bool.{Bool, not}
 use Prim.Native.Nat.{ℕ}
 use lib.Dec.{eqb}
 use Rattle.answers.specs.declared.Fault.{Fault}
 use Rattle.answers.specs.declared.Kind.{Kind}
-use Rattle.answers.specs.declared.Kind.the-variants.{Overlap, Gap, Outside, Cycle, Late, Dangling}
+use Rattle.answers.specs.declared.Kind.the-variants.{Overlap, Gap, Outside, Cycle, Late, Dangling, Double}
 use Rattle.answers.specs.declared.Answer.{Answer}
 use Rattle.answers.specs.declared.Answer.the-variants.{Done, Size, Start, Node, Edge, Reference, Faulty, Room}
 use Rattle.answers.specs.declared.Answer.the-variants.{Tie, Early, Deep, Text, TextRoom}
@@ -18,7 +18,7 @@ pub record Numbers : Type 0 where
 abbrev pub says : ℕ → ℕ → ℕ → Numbers
 says c t p = record { code = c; instant = t; place = p }
 
--- [01:Faults at an instant] the table's first column
+-- [01:Faults at an instant] the table's first column; [02:Ask 1] 17
 abbrev pub codeOf : Kind → ℕ
 codeOf Overlap = 11
 codeOf Gap = 12
@@ -26,6 +26,7 @@ codeOf Outside = 13
 codeOf Cycle = 14
 codeOf Late = 15
 codeOf Dangling = 16
+codeOf Double = 17
 
 -- [01:What the calls answer] the table's column 'names'. A fault is a kind and a place
 abbrev pub numbers : Answer → Numbers

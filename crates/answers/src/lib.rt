@@ -12,6 +12,7 @@ pub enum Kind {
     Cycle,
     Late,
     Dangling,
+    Double,
 }
 
 // A fault at an instant: its kind, and its place, a node or a reference row.
@@ -48,6 +49,7 @@ impl Kind {
             Kind::Cycle => 14,
             Kind::Late => 15,
             Kind::Dangling => 16,
+            Kind::Double => 17,
         }
     }
 }

@@ -12,7 +12,7 @@ use Rattle.answers.specs.declared.Answer.the-variants.{Done, Faulty}
 use Rattle.answers.specs.Numbers.{numbers, passed}
 use Rattle.tables.specs.Tables.{Now, edgeAt, Tables, table, edgeIn}
 use Rattle.tables.specs.Rules.{Obeys}
-use Rattle.history.specs.Sound.{AllSound, FirstUnsound}
+use Rattle.history.specs.Sound.{OneReference, AllSound, FirstUnsound}
 use Rattle.history.specs.Faults.{History, held, Verdict}
 use Rattle.history.specs.Document.{RootedTree, Document}
 use Rattle.history.proofs.RuledLaws.{obeys-ruled, held-ends}
@@ -69,7 +69,8 @@ module _ (L : Tables) (t : ℕ) (before : List ℕ) (r : Answered) (after : List
   snapshot-unique = leaves-unique (Snapshot L t before) r after given (λ a b u v. shown-unique L t)
 
   -- [demand 2] "Faults and snapshots agree with the Temporal XML Document of Rizzolo and Vaisman, as document 01 lays
-  -- it out. A snapshot shows exactly what was contained at its instant."
+  -- it out. A snapshot shows exactly what was contained at its instant."; [02:Ask 1] the referent in each row is the
+  -- target of the one reference in force from its node (OneReferent, in Exact)
   pub snapshot-contained : r .code ≡ 0
       → RootedTree (held L) t × ((xs : List ShownRow) × ShownRows (held L) t xs × Exact (held L) t xs
       × Told (Done t (length xs)) r × (after ≡ front (shownNumbers xs) before))
@@ -158,8 +159,8 @@ module _ (s n e f : List ℕ) (r : Reading) (n′ e′ f′ : List ℕ) (given :
 -- [demand 3] "For a start and tables that obey the start, size and row rules, a history is accepted exactly if at every
 -- instant from 0 to Now each node touched by a containment row then in force is reached from the root by one chain of
 -- such rows and no other, no node is missing between two of its stays, and each reference in force joins an attribute
--- and a target that are both present. Otherwise the verdict names the earliest instant at which this fails, with the
--- kind and place that the rules fix."
+-- and a target that are both present", [02:Ask 1] "and at most one reference in force per attribute". "Otherwise the
+-- verdict names the earliest instant at which this fails, with the kind and place that the rules fix."
 module _ (L : Tables) (o : Obeys L) where
   abbrev H : History
   H = held L
@@ -182,8 +183,10 @@ module _ (L : Tables) (o : Obeys L) where
         (t, f, e ∙ ap numbers is, first)
 
     -- [demand 2] "Faults and snapshots agree with the Temporal XML Document of Rizzolo and Vaisman, as document 01 lays
-    -- it out." The ends of rows are 32-bit numbers, as in every slice that is lent
-    pub check-document : Small (L .edges .numbers) → Told passed r ↔ Document H
+    -- it out." The paper lets two references of one attribute be in force; [02:Ask 1] does not. The ends of rows are
+    -- 32-bit numbers, as in every slice that is lent
+    pub check-document : Small (L .edges .numbers)
+        → Told passed r ↔ (Document H × ((t : ℕ) → t ≤ Now → OneReference H t))
     check-document small =
         let d = accepted-document H (obeys-ruled L o) (held-ends L small) in
         (λ q. d .0 (passes .0 q), λ x. passes .1 (d .1 x))

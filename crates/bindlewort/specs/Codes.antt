@@ -27,7 +27,7 @@ codesOf = map (λ a. numbers a .code)
 abbrev pub ruleCodes : List ℕ
 ruleCodes = codesOf (passed ∷ Size 0 ∷ Start ∷ Node 0 ∷ Edge 0 ∷ Reference 0 ∷ [])
 
--- [01:What the calls answer] "Check: 1, 2, 3, 4, 5, then faults."
+-- [01:What the calls answer] "Check: 1, 2, 3, 4, 5, then faults."; [02:Ask 1] "17 after 16, in check and snapshot"
 abbrev pub checkCodes : List ℕ
 checkCodes = ruleCodes ++ map codeOf kinds
 

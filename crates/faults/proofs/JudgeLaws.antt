@@ -21,7 +21,7 @@ use Rattle.tables.specs.declared.rows.Side.the-variants.{Attribute, Target}
 use Rattle.tables.specs.Tables.{Now, refAt}
 use Rattle.tables.specs.Rows.{sideOf}
 use Rattle.tables.proofs.LabelLaws.{during-tells}
-use Rattle.history.specs.Faults.{History, historyOf, Overlap, Here, HoldsAt}
+use Rattle.history.specs.Faults.{History, historyOf, Overlap, Double, Here, HoldsAt}
 use Rattle.history.specs.Ruled.{LentRows}
 use Rattle.history.specs.Places.{Astray, places}
 use Rattle.history.specs.Computed.{holds, say}
@@ -113,6 +113,9 @@ module _ {n : ℕ} {rs : List ℕ} {k t : ℕ} {up : List ℕ} {x : ℕ} where
   pub dangling-found : x ≡ least (λ j. isStray up t Target (refAt rs j)) k → Finds n rs k t up kind.Dangling x
   dangling-found e =
       record { place = λ start es m c. test-is (c .seen) kind.Dangling _ (stray-tells (c .seen) Target) e }
+
+  pub double-found : Least (Double (refAt rs) t k) n x → Finds n rs k t up kind.Double x
+  double-found l = record { place = λ start es m c. line-is (c .seen) kind.Double l }
 
 -- a rung of the ladder: a fault was found, or the kinds after it answer
 module _ {n : ℕ} {rs : List ℕ} {k t : ℕ} {up : List ℕ} {kind : Kind} {x : ℕ} (f : Finds n rs k t up kind x)

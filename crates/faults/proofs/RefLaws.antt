@@ -1,24 +1,31 @@
 -- The pass over the references: what it has found after one row more, and after all. Assumes nothing.
-use mathlib.Core.Path.{_≡_, refl, subst, sym}
+use mathlib.Core.Path.{_≡_, refl, subst, sym, _∙_}
 use mathlib.Core.Logic.{_⊎_, inl, inr, ⊎-elim, Iff·rfl}
-use mathlib.Core.Bool.{Bool, true, false, cond, _&&_}
+use mathlib.Core.Bool.{Bool, true, false, cond, _&&_, false≢true}
 use mathlib.Core.List.{List}
 use Prim.Native.Nat.{ℕ, _+_, _<_}
 use native.Mathlib.Decide.{ℕ-discrete}
+use native.Mathlib.Numerals.{add-one}
 use native.Mathlib.Omega.{arith}
 use lib.Dec.{ltb}
-use lib.ListN.{length}
-use Rattle.ground.specs.Least.{Least}
+use lib.ListN.{length, getD, set, replicate, length-set, getD-replicate, length-replicate}
+use lib.Seq.{getD-set-same, getD-set-other}
+use Rattle.ground.specs.Tests.{Tells}
+use Rattle.ground.specs.Least.{Any, Least}
 use Rattle.ground.specs.Searches.{Passes, least}
-use Rattle.ground.proofs.LeastLaws.{least-nearer, least-same, least-missed, least-unique, least-tells}
+use Rattle.ground.proofs.TestLaws.{tells-fail}
+use Rattle.ground.proofs.LeastLaws.{least-nearer, least-same, least-missed, least-unique, least-tells, any-suc}
 use Rattle.tables.specs.declared.rows.Side.{Side}
 use Rattle.tables.specs.declared.rows.Side.the-variants.{Attribute, Target}
-use Rattle.tables.specs.Tables.{refAt}
+use Rattle.tables.specs.Tables.{During, RefRow, refAt}
 use Rattle.tables.specs.Labels.{during}
 use Rattle.tables.specs.Rows.{sideOf}
+use Rattle.tables.specs.Rules.{mostNodes}
+use Rattle.tables.proofs.LabelLaws.{during-tells}
+use Rattle.history.specs.Faults.{RefersFrom, Double}
 use Rattle.faults.specs.declared.refs.RefFaults.{RefFaults}
 use Rattle.faults.specs.Leaves.{isAbsent}
-use Rattle.faults.specs.Refs.{strayAt, SoFar, Found, Finding, Leasts}
+use Rattle.faults.specs.Refs.{strayAt, SoFar, Flags, Found, Finding, Leasts}
 
 module _ (p : ℕ → Bool) where
   so-far-or : (j i : ℕ) → SoFar p (j + 1) i → SoFar p j i ⊎ ((i ≡ j) × (p j ≡ true))
@@ -44,34 +51,118 @@ module _ (p : ℕ → Bool) where
       least-unique (Passes p) (least-same (λ i g s. s .1) (λ i g e. (g, e)) l)
       (least-tells p (Passes p) k (λ i h. Iff·rfl))
 
-module _ {rs : List ℕ} {k t : ℕ} {up : List ℕ} where
-  pub found-none : Found rs k t up 0 (record { late = k; dangling = k })
-  found-none = record { late = so-far-none _; dangling = so-far-none _ }
+-- row j of reference rows R
+module _ (R : ℕ → RefRow) (t : ℕ) {j : ℕ} where
+  -- a DOUBLE of the first j + 1 rows is one of the first j, or row j is its second
+  double-or : (a : ℕ) → Double R t (j + 1) a → Double R t j a ⊎ (RefersFrom R t a j × Any (RefersFrom R t a) j)
+  double-or a (i, k, g, h, x, y) = go (ℕ-discrete k j)
+    where
+      go : Dec (k ≡ j) → Double R t j a ⊎ (RefersFrom R t a j × Any (RefersFrom R t a) j)
+      go (yes e) = inr (subst (RefersFrom R t a) e y, (i, omega arith, x))
+      go (no e) = inl (i, k, g, omega arith, x, y)
 
-  pub found-all : {j : ℕ} {r : RefFaults} → j ≡ k → Found rs k t up j r → Leasts rs k t up r
-  found-all {r = r} e found =
-      let f = subst (λ i. Found rs k t up i r) e found in
-      record { late = so-far-all _ (f .late); dangling = so-far-all _ (f .dangling) }
+  double-wider : (a : ℕ) → Double R t j a → Double R t (j + 1) a
+  double-wider a (i, k, g, h, x, y) = (i, k, g, omega arith, x, y)
 
-  module _ {j : ℕ} {r : RefFaults} (f : Finding rs k t up j r) where
-    pub row-ends : (side : Side) → sideOf side (refAt rs j) < length up
+  any-wider : (a : ℕ) → Any (RefersFrom R t a) j → Any (RefersFrom R t a) (j + 1)
+  any-wider a (i, h, x) = (i, omega arith, x)
+
+  -- the flag of a node from which row j is not in force still tells
+  flag-stays : (a : ℕ) {b : Bool} → (RefersFrom R t a j → ⊥) → Tells b (Any (RefersFrom R t a) j)
+      → Tells b (Any (RefersFrom R t a) (j + 1))
+  flag-stays a f tells =
+      (λ e. any-wider a (tells .0 e), λ s. tells .1 (⊎-elim (λ x. absurd (f x)) (λ r. r) (any-suc _ j .1 (rw add-one at s))))
+
+  -- row j is not in force
+  module _ (off : During (R j .from) (R j .to) t → ⊥) where
+    double-skip : {n x : ℕ} → Least (Double R t j) n x → Least (Double R t (j + 1)) n x
+    double-skip =
+        least-same (λ a g. double-wider a) (λ a g d. ⊎-elim (λ x. x) (λ w. absurd (off (w .0 .1))) (double-or a d))
+
+    flags-skip : (flags : List Bool) → Flags R t j flags → Flags R t (j + 1) flags
+    flags-skip flags f a h = flag-stays a (λ x. off (x .1)) (f a h)
+
+  -- it is, and a flag says whether one before it is from the same node
+  module _ (on : During (R j .from) (R j .to) t) where
+    double-more : {n x : ℕ} (b : Bool) → Tells b (Any (RefersFrom R t (R j .attribute)) j) → R j .attribute < n
+        → Least (Double R t j) n x → Least (Double R t (j + 1)) n (cond (b && ltb (R j .attribute) x) (R j .attribute) x)
+    double-more b tells h l = least-same (λ a g. there a) (λ a g. back a) (least-nearer b h l)
+      where
+        there : (a : ℕ) → Double R t j a ⊎ ((a ≡ R j .attribute) × (b ≡ true)) → Double R t (j + 1) a
+        there a (inl d) = double-wider a d
+        there a (inr (e, q)) =
+            let (i, g, x) = tells .0 q in
+            (i, j, g, omega arith, (x .0 ∙ sym e, x .1), (sym e, on))
+
+        back : (a : ℕ) → Double R t (j + 1) a → Double R t j a ⊎ ((a ≡ R j .attribute) × (b ≡ true))
+        back a d =
+            ⊎-elim inl (λ (x, (i, g, y)). inr (sym (x .0), tells .1 (i, g, (y .0 ∙ sym (x .0), y .1)))) (double-or a d)
+
+    flags-set : (flags : List Bool) → R j .attribute < length flags → Flags R t j flags
+        → Flags R t (j + 1) (set flags (R j .attribute) true)
+    flags-set flags l f a h = go (ℕ-discrete a (R j .attribute))
+      where
+        go : Dec (a ≡ R j .attribute)
+            → Tells (getD (set flags (R j .attribute) true) a false) (Any (RefersFrom R t a) (j + 1))
+        go (yes e) = (λ q. (j, omega arith, (sym e, on)), λ s. rw e (getD-set-same flags (R j .attribute) true false l))
+        go (no e) =
+            rw (getD-set-other flags (R j .attribute) a true false e)
+            (flag-stays a (λ x. e (sym (x .0))) (f a (omega (arith, length-set flags (R j .attribute) true))))
+
+module _ {rs : List ℕ} {k n t : ℕ} {up : List ℕ} where
+  pub found-none : Found rs k n t up 0 (record { late = k; dangling = k; double = n }) (replicate mostNodes false)
+  found-none =
+      record {
+        late = so-far-none _;
+        dangling = so-far-none _;
+        double = least-missed _ (λ a h d. omega (arith, d .3));
+        flags = λ a h. (
+          λ e. absurd (false≢true (sym (unset a (omega (arith, length-replicate mostNodes false))) ∙ e)),
+          λ s. absurd (omega (arith, s .1)),
+        );
+      }
+    where
+      unset : (a : ℕ) → a < mostNodes → getD (replicate mostNodes false) a false ≡ false
+      unset a h = getD-replicate mostNodes a false false h
+
+  pub found-all : {j : ℕ} {r : RefFaults} {flags : List Bool} → j ≡ k → Found rs k n t up j r flags
+      → Leasts rs k n t up r
+  found-all {r = r} {flags} e found =
+      let f = subst (λ i. Found rs k n t up i r flags) e found in
+      record { late = so-far-all _ (f .late); dangling = so-far-all _ (f .dangling); double = f .double }
+
+  module _ {j : ℕ} {r : RefFaults} {flags : List Bool} (f : Finding rs k n t up j r flags) where
+    pub row-ends : (side : Side) → sideOf side (refAt rs j) < n
     row-ends side = f .refers .ends side j (f .row)
 
     -- row j is not in force
-    pub found-skip : during (refAt rs j .from) (refAt rs j .to) t ≡ false → Found rs k t up (j + 1) r
+    pub found-skip : during (refAt rs j .from) (refAt rs j .to) t ≡ false → Found rs k n t up (j + 1) r flags
     found-skip e =
+        let off = tells-fail (during-tells _ _ t) e in
         record {
-          late = rw e at (so-far-more (strayAt rs k t up Attribute) (f .row) (f .found .late));
-          dangling = rw e at (so-far-more (strayAt rs k t up Target) (f .row) (f .found .dangling));
+          late = rw e at (so-far-more (strayAt rs k n t up Attribute) (f .row) (f .found .late));
+          dangling = rw e at (so-far-more (strayAt rs k n t up Target) (f .row) (f .found .dangling));
+          double = double-skip (refAt rs) t off (f .found .double);
+          flags = flags-skip (refAt rs) t off flags (f .found .flags);
         }
 
-    -- it is, and the nodes at its ends may be absent
-    pub found-more : during (refAt rs j .from) (refAt rs j .to) t ≡ true → {l d : ℕ}
-        → l ≡ cond (isAbsent up (refAt rs j .attribute) && ltb j (r .late)) j (r .late)
-        → d ≡ cond (isAbsent up (refAt rs j .target) && ltb j (r .dangling)) j (r .dangling)
-        → Found rs k t up (j + 1) (record { late = l; dangling = d })
-    found-more e el ed =
+    -- it is, from a to b: these may be absent, and one before it may be from a
+    pub found-more : during (refAt rs j .from) (refAt rs j .to) t ≡ true
+        → {a b : ℕ} → a ≡ refAt rs j .attribute → b ≡ refAt rs j .target
+        → {u : Bool} {l : ℕ} → u ≡ isAbsent up a → l ≡ cond (u && ltb j (r .late)) j (r .late)
+        → {v : Bool} {d : ℕ} → v ≡ isAbsent up b → d ≡ cond (v && ltb j (r .dangling)) j (r .dangling)
+        → {c : ℕ} → c ≡ cond (getD flags a false && ltb a (r .double)) a (r .double)
+        → Found rs k n t up (j + 1) (record { late = l; dangling = d; double = c }) (set flags a true)
+    found-more e ea eb eu el ev ed ec =
+        let on = during-tells _ _ t .0 e in
+        let far : refAt rs j .attribute < length flags = omega (arith, f .flagged, row-ends Attribute) in
         record {
-          late = rw (e, ← el) at (so-far-more (strayAt rs k t up Attribute) (f .row) (f .found .late));
-          dangling = rw (e, ← ed) at (so-far-more (strayAt rs k t up Target) (f .row) (f .found .dangling));
+          late =
+              rw (e, ← ea, ← eu, ← el) at (so-far-more (strayAt rs k n t up Attribute) (f .row) (f .found .late));
+          dangling =
+              rw (e, ← eb, ← ev, ← ed) at (so-far-more (strayAt rs k n t up Target) (f .row) (f .found .dangling));
+          double =
+              rw (← ea, ← ec) at
+              (double-more (refAt rs) t on _ (f .found .flags _ far) (row-ends Attribute) (f .found .double));
+          flags = rw ea (flags-set (refAt rs) t on flags far (f .found .flags));
         }

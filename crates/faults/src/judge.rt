@@ -37,7 +37,7 @@ fn faulty(t: u32, kind: Kind, place: usize) -> Answer
 
 // The kinds after GAP, where no node has two rows into it, of whatever containment rows the slots are.
 fn after_gap(n: usize, refs: &[u32], k: usize, t: u32, up: &[u32]) -> Answer
-    requires { ⌜ (n ≤ length (now up)) × (n ≤ mostNodes) × (k ≤ mostRefs) × Referring (now refs) k (length (now up)) ⌝ }
+    requires { ⌜ (n ≤ length (now up)) × (n ≤ mostNodes) × (k ≤ mostRefs) × Referring (now refs) k n ⌝ }
     ensures { λ r. ⌜ Rest n (now (refs .entry)) k t (now (up .entry)) afterGap r ⌝ }
 {
     let outside = first_outside(up, n);
@@ -48,12 +48,15 @@ fn after_gap(n: usize, refs: &[u32], k: usize, t: u32, up: &[u32]) -> Answer
     if back < n {
         return faulty(t, Kind::Cycle, back);
     }
-    let found = take_refs(refs, k, t, up);
+    let found = take_refs(refs, k, n, t, up);
     if found.late < k {
         return faulty(t, Kind::Late, found.late);
     }
     if found.dangling < k {
         return faulty(t, Kind::Dangling, found.dangling);
+    }
+    if found.double < n {
+        return faulty(t, Kind::Double, found.double);
     }
     Answer::Done(0, 0)
 }

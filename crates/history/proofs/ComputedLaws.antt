@@ -17,10 +17,10 @@ use Rattle.tables.specs.Tables.{During, EdgeRow, RefRow}
 use Rattle.tables.specs.Rows.{sideOf}
 use Rattle.tables.proofs.LabelLaws.{during-tells}
 use Rattle.history.specs.Faults.{History, Into, Out, Ended, Coming, NoneInto, Present, Chain, Overlap, Gap}
-use Rattle.history.specs.Faults.{Outside, Cycle, RefersFrom, Refers}
+use Rattle.history.specs.Faults.{Outside, Cycle, RefersFrom, Double, Refers}
 use Rattle.history.specs.Places.{Leads, NodesBelow, Astray}
 use Rattle.history.specs.Computed.{isInto, isOut, hasEnded, isComing, isPresent, reaches, overlaps, hasGap}
-use Rattle.history.specs.Computed.{isOutside, cycles, refersFrom, isReferring, isAstray}
+use Rattle.history.specs.Computed.{isOutside, cycles, refersFrom, doubles, isReferring, isAstray}
 use Rattle.history.proofs.Chains.{shorten}
 
 module _ (m : ℕ) (E : ℕ → EdgeRow) (t : ℕ) where
@@ -153,8 +153,20 @@ module _ (m : ℕ) (E : ℕ → EdgeRow) (t : ℕ) where
       short : (a : ℕ) → (js : List ℕ) × (length js < N) × Chain m E t n a js → Within N n a
       short a (js, l, c) = (js, omega arith, c)
 
-pub refers-from-tells : (R : ℕ → RefRow) (t a k : ℕ) → Tells (refersFrom R t a k) (RefersFrom R t a k)
-refers-from-tells R t a k = tells-and _ _ (tells-eq (R k .attribute) a) (during-tells _ _ t)
+module _ (R : ℕ → RefRow) (t a : ℕ) where
+  pub refers-from-tells : (k : ℕ) → Tells (refersFrom R t a k) (RefersFrom R t a k)
+  refers-from-tells k = tells-and _ _ (tells-eq (R k .attribute) a) (during-tells _ _ t)
+
+  -- a reference in force, and one before it
+  pub double-again : (m : ℕ) → Any (λ k. RefersFrom R t a k × Any (RefersFrom R t a) k) m ↔ Double R t m a
+  double-again m = (λ (k, h, (y, (j, g, x))). (j, k, g, h, x, y), λ (j, k, g, h, x, y). (k, h, (y, (j, g, x))))
+
+  pub double-tells : (m : ℕ) → Tells (doubles R t m a) (Double R t m a)
+  double-tells m =
+      Iff·trans
+      (any-tells _ (λ k. RefersFrom R t a k × Any (RefersFrom R t a) k)
+      (λ k. tells-and _ _ (refers-from-tells k) (any-tells _ (RefersFrom R t a) refers-from-tells k)) m)
+      (double-again m)
 
 module _ (H : History) (t : ℕ) where
   refers-tells : (k : ℕ) → Tells (isReferring H t k) (Refers H t k)

@@ -1,4 +1,5 @@
--- Agreement with the paper: a history is a Temporal XML Document exactly if no instant has a fault. Assumes nothing.
+-- Agreement with the paper: no instant has a fault exactly if the history is a Temporal XML Document and, which the paper
+-- does not ask, no instant has two references in force from one attribute. Assumes nothing.
 use mathlib.Core.Path.{refl, _∙_}
 use mathlib.Core.Logic.{_≢_, inl, inr, ⊎-elim, _↔_}
 use Prim.Native.Nat.{ℕ, _≤_, _<_}
@@ -9,9 +10,10 @@ use Rattle.answers.specs.Refusals.{fault}
 use Rattle.tables.specs.Tables.{Now}
 use Rattle.history.specs.Faults.{History, Into, Overlap, Here, HoldsAt, Faultless}
 use Rattle.history.specs.Document.{Lifespan, InLifespan, RootedTree, Document}
+use Rattle.history.specs.Sound.{OneReference}
 use Rattle.history.specs.Ruled.{Ruled}
 use Rattle.history.proofs.Tree.{Tree, same-row, up-row}
-use Rattle.history.proofs.SoundLaws.{not-away, sound}
+use Rattle.history.proofs.SoundLaws.{not-away, one-undoubled, sound}
 use Rattle.history.proofs.ConsecutiveLaws.{consecutive-no-overlap, consecutive-no-gap}
 use Rattle.history.proofs.ListedLaws.{incoming-listed}
 
@@ -41,19 +43,20 @@ module _ (H : History) where
         }
 
     -- each fault breaks its condition
-    document-faultless : Document H → (t : ℕ) → t ≤ Now → (k : Kind) (p : ℕ) → HoldsAt H t k p → ⊥
-    document-faultless d t now kind.Overlap n x =
+    document-faultless : Document H → (t : ℕ) → t ≤ Now → OneReference H t → (k : Kind) (p : ℕ) → HoldsAt H t k p → ⊥
+    document-faultless d t now one kind.Overlap n x =
         let (is, those, c) = d .incoming n in
         consecutive-no-overlap H r t n is those c x
-    document-faultless d t now kind.Gap n x =
+    document-faultless d t now one kind.Gap n x =
         let (is, those, c) = d .incoming n in
         consecutive-no-gap H r t n is those c x
-    document-faultless d t now kind.Outside n (ne, (i, o), none) =
+    document-faultless d t now one kind.Outside n (ne, (i, o), none) =
         ⊎-elim (λ p. ne (p .0)) (λ p. none (p .1 .0) (p .1 .1))
         (lifespan-here n t (rw (o .out) at (d .outgoing i (o .row) t now (o .force))))
-    document-faultless d t now kind.Cycle n (i, is, c) = d .tree t now .acyclic n i is c
-    document-faultless d t now kind.Late k ((h, f), away) = away (lifespan-here _ t (d .attribute k h t now f))
-    document-faultless d t now kind.Dangling k ((h, f), away) = away (lifespan-here _ t (d .target k h t now f))
+    document-faultless d t now one kind.Cycle n (i, is, c) = d .tree t now .acyclic n i is c
+    document-faultless d t now one kind.Late k ((h, f), away) = away (lifespan-here _ t (d .attribute k h t now f))
+    document-faultless d t now one kind.Dangling k ((h, f), away) = away (lifespan-here _ t (d .target k h t now f))
+    document-faultless d t now one kind.Double a x = one-undoubled H t one a x
 
     module _ (bound : (i : ℕ) → i < H .edges → H .edge i .to ≤ Now)
         (none : (t : ℕ) → t ≤ Now → Faultless H t) where
@@ -90,5 +93,8 @@ module _ (H : History) where
 
 -- no label passes Now where rows are of 32-bit numbers, as those of tables are
 pub document : (H : History) → Ruled H → ((i : ℕ) → i < H .edges → H .edge i .to ≤ Now)
-    → Document H ↔ ((t : ℕ) → t ≤ Now → Faultless H t)
-document H r bound = (λ d t now f. document-faultless H r d t now (f .kind) (f .place), faultless-document H r bound)
+    → (Document H × ((t : ℕ) → t ≤ Now → OneReference H t)) ↔ ((t : ℕ) → t ≤ Now → Faultless H t)
+document H r bound = (
+  λ (d, one) t now f. document-faultless H r d t now (one t now) (f .kind) (f .place),
+  λ none. (faultless-document H r bound none, λ t now. sound H t r .0 (none t now) .single),
+)

@@ -8,7 +8,7 @@ use native.Mathlib.Omega.{arith}
 use Rattle.ground.specs.Tests.{Tells}
 use Rattle.ground.proofs.LeastLaws.{not-lt→le}
 use Rattle.answers.specs.declared.Kind.{Kind}
-use Rattle.answers.specs.declared.Kind.the-variants.{Overlap, Gap, Outside, Cycle, Late, Dangling}
+use Rattle.answers.specs.declared.Kind.the-variants.{Overlap, Gap, Outside, Cycle, Late, Dangling, Double}
 use Rattle.answers.specs.declared.Fault.{Fault}
 use Rattle.tables.specs.declared.rows.Side.{Side}
 use Rattle.tables.specs.declared.rows.Side.the-variants.{Attribute, Target}
@@ -23,6 +23,7 @@ use Rattle.history.proofs.RuledLaws.{ruled-below}
 use Rattle.history.proofs.ChangeLaws.{AllUnchanged, calm-unchanged, into-s, into-t, chain-s, present-t}
 use Rattle.history.proofs.ChangeLaws.{last-change}
 use Rattle.history.proofs.ComputedLaws.{overlap-tells, gap-tells, outside-tells, cycle-tells, astray-tells}
+use Rattle.history.proofs.ComputedLaws.{double-tells}
 
 module _ (H : History) where
   -- the test tells the line; its places are below their number; where labels stand at s as at t, so does the fault;
@@ -95,6 +96,20 @@ module _ (H : History) where
         below = λ r t k x. x .0 .0;
         back = astray-back Target;
         change = astray-change Target;
+      }
+  lawful Double =
+      record {
+        tells = λ r t a. double-tells (H .ref) t a (H .refs);
+        below = λ r t a (j, k, g, h, x, y). omega (arith, r .ref-fits k h .attribute, y .0);
+        back = λ t s l a (j, k, g, h, x, y). (
+          j,
+          k,
+          g,
+          h,
+          (x .0, l .refs j (omega arith) .force (x .1)),
+          (y .0, l .refs k h .force (y .1)),
+        );
+        change = λ t a now (j, k, g, h, x, y). (H .ref k .from, y .1 .0, inr (k, h, inl refl));
       }
 
   -- where nothing changes after t up to s, what is a fault at s is the same fault at t

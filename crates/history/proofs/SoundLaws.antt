@@ -1,14 +1,15 @@
 -- Demand 3 at an instant: no fault holds exactly if its sentence does. Assumes nothing.
-use mathlib.Core.Path.{_≡_, _∙_}
+use mathlib.Core.Path.{_≡_, refl, sym, _∙_}
 use mathlib.Core.Logic.{_≢_, inl, inr, ⊎-elim, _↔_}
-use Prim.Native.Nat.{ℕ, _≤_}
-use native.Mathlib.Decide.{ℕ-discrete, decLe}
+use Prim.Native.Nat.{ℕ, _≤_, _<_}
+use native.Mathlib.Decide.{ℕ-discrete, decLe, decLt}
+use native.Mathlib.Omega.{arith}
 use Rattle.answers.specs.declared.Kind.{Kind}
 use Rattle.answers.specs.declared.Kind.the-variants as kind
 use Rattle.answers.specs.Refusals.{fault}
-use Rattle.history.specs.Faults.{History, Into, Gap, Here, HoldsAt, Faultless}
+use Rattle.history.specs.Faults.{History, Into, Gap, Double, Here, HoldsAt, Faultless}
 use Rattle.history.specs.Ruled.{Ruled}
-use Rattle.history.specs.Sound.{Touched, OneChain, Missing, Sound}
+use Rattle.history.specs.Sound.{Touched, OneChain, Missing, OneReference, Sound}
 use Rattle.history.proofs.Chains.{into-dec}
 use Rattle.history.proofs.Tree.{Tree, tree}
 use Rattle.history.proofs.RuledLaws.{ruled-below}
@@ -41,6 +42,19 @@ module _ (H : History) (t : ℕ) where
       ne : n ≢ 0
       ne e = r .edge-fits i (a .row) .not-root (a .into ∙ e)
 
+  -- two references in force from one attribute are a DOUBLE, and the other way round
+  pub undoubled-one : ((a : ℕ) → Double (H .ref) t (H .refs) a → ⊥) → OneReference H t
+  undoubled-one none j k x y e = go (decLt j k) (decLt k j)
+    where
+      go : Dec (j < k) → Dec (k < j) → j ≡ k
+      go (yes h) g = absurd (none _ (j, k, h, y .0, (e, x .1), (refl, y .1)))
+      go (no h) (yes g) = absurd (none _ (k, j, g, x .0, (sym e, y .1), (refl, x .1)))
+      go (no h) (no g) = omega arith
+
+  pub one-undoubled : OneReference H t → (a : ℕ) → Double (H .ref) t (H .refs) a → ⊥
+  one-undoubled one a (j, k, g, h, x, y) =
+      omega (arith, one j k (omega arith, x .1) (h, y .1) (x .0 ∙ sym (y .0)))
+
   module _ (r : Ruled H) where
     tree-tells : Tree (H .edges) (H .edge) t ↔ ((n : ℕ) → Touched (H .edges) (H .edge) t n
         → OneChain (H .edges) (H .edge) t 0 n)
@@ -60,6 +74,7 @@ module _ (H : History) (t : ℕ) where
             not-away _ (λ a. f (fault kind.Late k) (x, a)),
             not-away _ (λ a. f (fault kind.Dangling k) (x, a)),
           );
+          single = undoubled-one (λ a. f (fault kind.Double a));
         }
 
     sound-faultless : Sound H t → (k : Kind) (p : ℕ) → HoldsAt H t k p → ⊥
@@ -69,6 +84,7 @@ module _ (H : History) (t : ℕ) where
     sound-faultless s kind.Cycle n x = tree-tells .1 (s .reached) .no-cycle n x
     sound-faultless s kind.Late k x = x .1 (s .joined k (x .0) .0)
     sound-faultless s kind.Dangling k x = x .1 (s .joined k (x .0) .1)
+    sound-faultless s kind.Double a x = one-undoubled (s .single) a x
 
     pub sound : Faultless H t ↔ Sound H t
     sound = (faultless-sound, λ s f. sound-faultless s (f .kind) (f .place))

@@ -11,7 +11,7 @@ use Rattle.answers.specs.Numbers.{passed}
 use Rattle.tables.specs.Tables.{Now}
 use Rattle.history.specs.Faults.{History, Holds, First, Faultless, Earliest, Verdict, accepted, refused}
 use Rattle.history.specs.Ruled.{Ruled}
-use Rattle.history.specs.Sound.{AllSound, FirstUnsound}
+use Rattle.history.specs.Sound.{OneReference, AllSound, FirstUnsound}
 use Rattle.history.specs.Document.{Document}
 use Rattle.history.specs.Places.{Names, none, first}
 use Rattle.history.proofs.OrderLaws.{first-unique}
@@ -40,13 +40,14 @@ names-unique F t (none n) (first b) = absurd (n _ (b .holds))
 names-unique F t (first a) (none k) = absurd (k _ (a .holds))
 names-unique F t (first a) (first b) = ap (Faulty t) (first-unique F _ _ a b)
 
--- accepted exactly if the history is a Temporal XML Document; demand 3: exactly if the sentence holds at every instant;
+-- accepted exactly if the history is a Temporal XML Document with one reference in force at a time; demand 3: exactly if the sentence holds at every instant;
 -- otherwise the earliest instant at which it fails
 module _ (H : History) (r : Ruled H) where
   faultless-of : Verdict H passed → (t : ℕ) → t ≤ Now → Faultless H t
   faultless-of (accepted n) = n
 
-  pub accepted-document : ((i : ℕ) → i < H .edges → H .edge i .to ≤ Now) → Verdict H passed ↔ Document H
+  pub accepted-document : ((i : ℕ) → i < H .edges → H .edge i .to ≤ Now)
+      → Verdict H passed ↔ (Document H × ((t : ℕ) → t ≤ Now → OneReference H t))
   accepted-document bound =
       (λ v. document H r bound .1 (faultless-of v), λ d. accepted (document H r bound .0 d))
 

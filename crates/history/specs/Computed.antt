@@ -5,7 +5,7 @@
 --   isPresent, isHere    n is present; in a history
 --   reaches              a chain of at most k rows leads from one node to another
 --   overlaps, hasGap, isOutside, cycles   the lines of the table that are of nodes
---   refersFrom           reference row k is from a node, and in force
+--   refersFrom           reference row k is from a node, and in force; doubles: two of the first m are
 --   isReferring          reference row k is in force
 --   isAstray             reference row k is in force, and the node at one of its ends is not present
 --   holds                the table: a fault of a kind holds at t, at a place
@@ -24,7 +24,7 @@ use Prim.Native.Nat.{ℕ, zero, suc, _+_, min}
 use lib.Dec.{leb, ltb, eqb}
 use Rattle.ground.specs.Searches.{any}
 use Rattle.answers.specs.declared.Kind.{Kind}
-use Rattle.answers.specs.declared.Kind.the-variants.{Overlap, Gap, Outside, Cycle, Late, Dangling}
+use Rattle.answers.specs.declared.Kind.the-variants.{Overlap, Gap, Outside, Cycle, Late, Dangling, Double}
 use Rattle.answers.specs.declared.Answer.{Answer}
 use Rattle.answers.specs.declared.Answer.the-variants.{Faulty}
 use Rattle.answers.specs.Kinds.{kinds, shownKinds}
@@ -76,8 +76,12 @@ module _ (m : ℕ) (E : ℕ → EdgeRow) (t : ℕ) where
   abbrev pub cycles : ℕ → ℕ → Bool
   cycles nodes n = any (λ i. let back = reaches nodes n (E i .parent) in isInto n i && back) m
 
-abbrev pub refersFrom : (ℕ → RefRow) → ℕ → ℕ → ℕ → Bool
-refersFrom R t a k = eqb (R k .attribute) a && during (R k .from) (R k .to) t
+module _ (R : ℕ → RefRow) (t : ℕ) where
+  abbrev pub refersFrom : ℕ → ℕ → Bool
+  refersFrom a k = eqb (R k .attribute) a && during (R k .from) (R k .to) t
+
+  abbrev pub doubles : ℕ → ℕ → Bool
+  doubles m a = any (λ k. let sooner = any (refersFrom a) k in refersFrom a k && sooner) m
 
 module _ (H : History) (t : ℕ) where
   abbrev pub isReferring : ℕ → Bool
@@ -96,6 +100,7 @@ module _ (H : History) (t : ℕ) where
   holds Cycle = cycles (H .edges) (H .edge) t (H .nodes)
   holds Late = isAstray Attribute
   holds Dangling = isAstray Target
+  holds Double = doubles (H .ref) t (H .refs)
 
   -- one line of the table: its smallest place
   abbrev pub lineSays : Kind → Answer

@@ -1,6 +1,6 @@
 -- Rizzolo and Vaisman's Temporal XML Document, of tables that obey the rules: r is node 0, t0 the start. [01] leaves
 -- out condition 4 and half of 5, and reads 1 as OUTSIDE, 2 as OVERLAP and GAP, 3 as CYCLE, the half of 5 as LATE, 6 as
--- DANGLING: that all together are the same is proved. Assumes nothing.
+-- DANGLING: that all together are the same is proved. DOUBLE is no condition of the paper's. Assumes nothing.
 use mathlib.Core.Path.{_≡_}
 use mathlib.Core.Logic.{_≢_, _⊎_, _↔_}
 use mathlib.Core.List.{List, [], _∷_, List·Memᴰ as Among}

@@ -86,9 +86,15 @@ module _ (m : ℕ) (E : ℕ → EdgeRow) (t : ℕ) where
   abbrev pub Cycle : ℕ → Type 0
   Cycle n = (i : ℕ) × (is : List ℕ) × Chain n n (i ∷ is)
 
--- Of the reference rows R, at the instant t: row k is from a, and in force
-abbrev pub RefersFrom : (ℕ → RefRow) → ℕ → ℕ → ℕ → Type 0
-RefersFrom R t a k = (R k .attribute ≡ a) × During (R k .from) (R k .to) t
+-- Of reference rows R, at the instant t:
+module _ (R : ℕ → RefRow) (t : ℕ) where
+  -- row k is from a, and in force
+  abbrev pub RefersFrom : ℕ → ℕ → Type 0
+  RefersFrom a k = (R k .attribute ≡ a) × During (R k .from) (R k .to) t
+
+  -- [02:Ask 1] 17 DOUBLE "two or more references from one attribute are in force", of the first m rows
+  abbrev pub Double : ℕ → ℕ → Type 0
+  Double m a = (j : ℕ) × (k : ℕ) × (j < k) × (k < m) × RefersFrom a j × RefersFrom a k
 
 module _ (H : History) (t : ℕ) where
   -- reference row k is in force
@@ -114,6 +120,7 @@ module _ (H : History) (t : ℕ) where
   HoldsAt kind.Cycle = Cycle (H .edges) (H .edge) t
   HoldsAt kind.Late = Late
   HoldsAt kind.Dangling = Dangling
+  HoldsAt kind.Double = Double (H .ref) t (H .refs)
 
   abbrev pub Holds : Fault → Type 0
   Holds f = HoldsAt (f .kind) (f .place)

@@ -9,7 +9,7 @@ use mathlib.Core.Path.{_≡_}
 use Prim.Native.Nat.{ℕ, _<_}
 use Rattle.answers.specs.declared.Fault.{Fault}
 use Rattle.answers.specs.declared.Kind.{Kind}
-use Rattle.answers.specs.declared.Kind.the-variants.{Overlap, Gap, Outside, Cycle, Late, Dangling}
+use Rattle.answers.specs.declared.Kind.the-variants.{Overlap, Gap, Outside, Cycle, Late, Dangling, Double}
 use Rattle.answers.specs.declared.Answer.{Answer}
 use Rattle.answers.specs.declared.Answer.the-variants.{Faulty}
 use Rattle.answers.specs.Numbers.{passed}
@@ -35,6 +35,7 @@ places H Outside = H .nodes
 places H Cycle = H .nodes
 places H Late = H .refs
 places H Dangling = H .refs
+places H Double = H .nodes
 
 pub data Names (F : Fault → Type 0) (t : ℕ) : Answer → Type 0 where
   none : ((f : Fault) → F f → ⊥) → Names F t passed

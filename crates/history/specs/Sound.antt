@@ -22,13 +22,18 @@ module _ (H : History) (t : ℕ) where
   Missing n =
       (Here H t n → ⊥) × ((i : ℕ) × Ended (H .edges) (H .edge) t n i) × ((j : ℕ) × Coming (H .edges) (H .edge) t n j)
 
+  -- [02:Ask 1] "at most one reference in force per attribute"
+  abbrev pub OneReference : Type 0
+  OneReference = (j k : ℕ) → Refers H t j → Refers H t k → H .ref j .attribute ≡ H .ref k .attribute → j ≡ k
+
   -- [demand 3] "each node touched by a containment row then in force is reached from the root by one chain of such rows
   -- and no other, no node is missing between two of its stays, and each reference in force joins an attribute and a
-  -- target that are both present"
+  -- target that are both present", [02:Ask 1] "and at most one reference in force per attribute"
   pub record Sound : Type 0 where
     pub reached : (n : ℕ) → Touched (H .edges) (H .edge) t n → OneChain (H .edges) (H .edge) t 0 n
     pub unbroken : (n : ℕ) → Missing n → ⊥
     pub joined : (k : ℕ) → Refers H t k → Here H t (H .ref k .attribute) × Here H t (H .ref k .target)
+    pub single : OneReference
 
 -- [demand 3] "at every instant from 0 to Now"
 abbrev pub AllSound : History → Type 0

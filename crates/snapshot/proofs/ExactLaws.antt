@@ -15,20 +15,32 @@ use Rattle.ground.proofs.TestLaws.{tells-and, tells-not, tells-eq, tells-fails}
 use Rattle.ground.proofs.SumLaws.{sum-ext, sum-add, sum-one}
 use Rattle.tables.specs.Tables.{noNode}
 use Rattle.history.specs.Faults.{History, Into, NoneInto, Chain, Here}
+use Rattle.history.specs.Sound.{OneReference}
 use Rattle.history.specs.Ruled.{Ruled}
 use Rattle.history.proofs.Chains.{into-node, long-cycle}
 use Rattle.history.proofs.ComputedLaws.{present-tells}
 use Rattle.history.proofs.RuledLaws.{ruled-below}
 use Rattle.history.proofs.SoundLaws.{here-dec}
 use Rattle.history.proofs.Tree.{Tree, same-row, some-chain}
-use Rattle.snapshot.specs.Snapshot.{ShownRow}
-use Rattle.snapshot.specs.Exact.{standing, RowRight, Exact}
+use Rattle.snapshot.specs.Snapshot.{ShownRow, Referent, target, no-target}
+use Rattle.snapshot.specs.Exact.{standing, OneReferent, one, no-reference, RowRight, Exact}
 use Rattle.snapshot.specs.Walk.{subtree}
 use Rattle.snapshot.specs.Says.{referentAt, shownRows, childrenOf}
 use Rattle.snapshot.specs.Counts.{occurs, isOther}
 use Rattle.snapshot.proofs.CountLaws.{last-row, no-row, walk-all, all-map, standing-sum}
 use Rattle.snapshot.proofs.ChildLaws.{tells-same, child-tells, child-below, child-occurs, children-all}
 use Rattle.snapshot.proofs.ShownLaws.{referent-shown}
+
+-- where at most one reference is in force from each node, the smallest is the only one
+module _ (H : History) (t : ℕ) (sole : OneReference H t) where
+  referent-one : {n r : ℕ} → Referent H t n r → OneReferent H t n r
+  referent-one (target {k = k} (l, h)) =
+      let x = l .here h in
+      one h x (λ j g y. sole j k (g, y .1) (h, x .1) (y .0 ∙ sym (x .0)))
+  referent-one (no-target f) = no-reference f
+
+  pub one-shown : (n : ℕ) → OneReferent H t n (referentAt (H .refs) (H .ref) t n)
+  one-shown n = referent-one (referent-shown H t n)
 
 module _ (H : History) (t : ℕ) (ruled : Ruled H) (tree : Tree (H .edges) (H .edge) t) where
   root : NoneInto (H .edges) (H .edge) t 0
@@ -100,15 +112,15 @@ module _ (H : History) (t : ℕ) (ruled : Ruled H) (tree : Tree (H .edges) (H .e
         absent n (H .nodes) noNode (λ e. away (inl (e, begun)))
         (λ i p. away (inr (λ e. root i (into-node _ _ t n 0 i e p), (i, p))))
 
-    pub rows-exact : Exact H t (shownRows H t)
-    rows-exact =
+    pub rows-exact : OneReference H t → Exact H t (shownRows H t)
+    rows-exact sole =
         record {
           once = once;
           only = only;
           right =
               walk-all ρ kids (RowRight H t) (λ n. children-all H t n _ (λ c x.
-              record { under = inr x; refers = referent-shown H t c }))
-              (H .nodes) noNode 0 (record { under = inl (refl, refl); refers = referent-shown H t 0 });
+              record { under = inr x; refers = one-shown H t sole c }))
+              (H .nodes) noNode 0 (record { under = inl (refl, refl); refers = one-shown H t sole 0 });
         }
 
 -- rows that are exact are the root's and one for each other node that is present

@@ -23,11 +23,13 @@ use Rattle.tables.specs.Rules.{mostNodes, Obeys, Gives}
 use Rattle.tables.specs.Says.{historySays}
 use Rattle.tables.proofs.GivesLaws.{gives-is, gives-says, obeys-tells}
 use Rattle.history.specs.Faults.{History, held, GapAside}
+use Rattle.history.specs.Sound.{OneReference}
 use Rattle.history.specs.Ruled.{Ruled}
 use Rattle.history.specs.Places.{Names, none, first}
 use Rattle.history.specs.Computed.{shownSay}
 use Rattle.history.proofs.SayLaws.{shown-named}
 use Rattle.history.proofs.RuledLaws.{obeys-ruled}
+use Rattle.history.proofs.SoundLaws.{undoubled-one}
 use Rattle.history.proofs.Tree.{Tree}
 use Rattle.history.proofs.VerdictLaws.{names-unique}
 use Rattle.faults.specs.Judged.{Shows}
@@ -48,6 +50,9 @@ module _ (H : History) (t : ℕ) where
         no-outside = λ n x. never (fault kind.Outside n) (x, omega arith);
         no-cycle = λ n x. never (fault kind.Cycle n) (x, omega arith);
       }
+
+  none-one : ((f : Fault) → GapAside H t f → ⊥) → OneReference H t
+  none-one never = undoubled-one H t (λ a x. never (fault kind.Double a) (x, omega arith))
 
   early-says : t < H .start → instantSays H t ≡ Early t
   unfolding instantSays
@@ -77,6 +82,9 @@ module _ (L : Tables) (t : ℕ) where
 
   pub ready-tree : Known → Tree (H .edges) (H .edge) t
   ready-tree r = none-tree H t (r .none)
+
+  pub ready-one : Known → OneReference H t
+  ready-one r = none-one H t (r .none)
 
   -- [02:Ask 8] "no chain can pass 1,023 rows"
   pub never-deep : Obeys L → ((f : Fault) → GapAside H t f → ⊥) → TooDeep H t → ⊥
@@ -161,7 +169,7 @@ module _ (L : Tables) (t : ℕ) where
     known = readiness-ready (x .answer) f
 
     pub ready-counted : 1 + count (λ c. ltb (getD up c 0) (H .nodes)) (H .nodes) ≡ length (shownRows H t)
-    ready-counted = counted H t (ready-tree known) (x .seen f) (known .begun)
+    ready-counted = counted H t (ready-tree known) (x .seen f) (known .begun) (ready-one known)
 
     pub ready-rows : rowsBy up (H .nodes) (L .refs .numbers) (L .refs .count) t ≡ shownRows H t
     ready-rows = walked H t (ready-tree known) (x .seen f)

@@ -12,6 +12,7 @@ use Rattle.ground.proofs.TestLaws.{tells-and, tells-not, tells-eq, tells-lt}
 use Rattle.ground.proofs.SumLaws.{sum-ext}
 use Rattle.tables.specs.Tables.{noNode}
 use Rattle.history.specs.Faults.{History, Into, Here}
+use Rattle.history.specs.Sound.{OneReference}
 use Rattle.history.proofs.ComputedLaws.{present-tells}
 use Rattle.history.proofs.RuledLaws.{ruled-below}
 use Rattle.history.proofs.Tree.{Tree}
@@ -59,11 +60,11 @@ module _ (H : History) (t : ℕ) (tree : Tree (H .edges) (H .edge) t) {parents :
       under ne (inl (e, _)) = absurd (ne e)
       under ne (inr (_, (i, p))) = omega (arith, parent-is c i hc p, ruled-below H (seen .ruled) i (p .row) .0)
 
-  pub counted : H .start ≤ t
+  pub counted : H .start ≤ t → OneReference H t
       → 1 + count (λ c. ltb (getD parents c 0) (H .nodes)) (H .nodes) ≡ length (shownRows H t)
-  counted begun =
+  counted begun sole =
       ap (λ k. 1 + k) (sum-ext _ _ (H .nodes) (λ c h. ap bit (other-same c h)))
-      ∙ sym (exact-number H t (seen .ruled) begun (rows-exact H t (seen .ruled) tree begun))
+      ∙ sym (exact-number H t (seen .ruled) begun (rows-exact H t (seen .ruled) tree begun sole))
 
   -- the walk by the slots is that of the snapshot
   pub walked : subtree (referentAt (H .refs) (H .ref) t) (kidsBy parents (H .nodes)) (H .nodes) noNode 0 ≡ shownRows H t

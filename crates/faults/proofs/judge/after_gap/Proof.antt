@@ -7,7 +7,7 @@ use Rattle.answers.specs.declared.Answer.{Answer}
 use Rattle.answers.specs.Kinds.{afterGap}
 use Rattle.faults.specs.Judged.{Rest}
 use Rattle.faults.proofs.JudgeLaws.{outside-found, cycle-found, late-found, dangling-found, rest-found, rest-on}
-use Rattle.faults.proofs.JudgeLaws.{rest-none}
+use Rattle.faults.proofs.JudgeLaws.{double-found, rest-none}
 use Rattle.faults.proofs.judge.after_gap.Statement.{statement}
 use Rattle.faults.proofs.judge.after_gap.Tie as tie
 
@@ -28,7 +28,7 @@ past₂ : (c : tie.Else2) {a : Answer} → Says (start₂ c) (drop 2 afterGap) a
 past₂ c r =
     past₁ (c .before .before) (rest-on (cycle-found (c .before .first-back .ensures)) (λ s e m. c .if2 .left) r)
 
--- past the two kinds that the pass over the references finds
+-- past the kinds that the pass over the references finds
 abbrev past : tie.After-take-refs → tie.Else2
 past c = c .before
 
@@ -48,6 +48,15 @@ past₄ : (c : tie.Else4) {a : Answer} → let s = start₂ (past (found₄ c)) 
 past₄ c r =
     past₃ (c .before .before)
     (rest-on (dangling-found (found₄ c .take-refs .ensures .dangling)) (λ s e m. c .if4 .left) r)
+
+abbrev found₅ : tie.Else5 → tie.After-take-refs
+found₅ c = found₄ (c .before .before)
+
+past₅ : (c : tie.Else5) {a : Answer} → let s = start₂ (past (found₅ c)) in
+    Says s (drop 5 afterGap) a → Says s afterGap a
+past₅ c r =
+    past₄ (c .before .before)
+    (rest-on (double-found (found₅ c .take-refs .ensures .double)) (λ s e m. c .if5 .left) r)
 
 first-outside-requires : tie.Need-first-outside-requires
 first-outside-requires c κs = search needs
@@ -94,8 +103,18 @@ returns-4 c =
     (rest-found (dangling-found (found₃ later .take-refs .ensures .dangling)) (λ s e m. c .before .if4 .taken)
     (c .faulty4 .ensures))
 
+faulty-requires-5 : tie.Need-faulty-requires-5
+faulty-requires-5 c κs = search needs
+
 returns-5 : tie.Need-returns-5
-returns-5 c = past₄ c rest-none
+returns-5 c =
+    let later = c .before .before .before in
+    past₄ later
+    (rest-found (double-found (found₄ later .take-refs .ensures .double)) (λ s e m. c .before .if5 .taken)
+    (c .faulty5 .ensures))
+
+returns-6 : tie.Need-returns-6
+returns-6 c = past₅ c rest-none
 
 pub after-gap-spec : {M : Type 1} → statement M
 after-gap-spec =
@@ -112,4 +131,6 @@ after-gap-spec =
     returns-3
     faulty-requires-4
     returns-4
-    returns-5)
+    faulty-requires-5
+    returns-5
+    returns-6)

@@ -1,3 +1,4 @@
+use mathlib.Core.Path.{sym, _∙_}
 use borrow.Author.Needs.{needs}
 use native.Mathlib.Omega.{arith}
 use Rattle.tables.specs.declared.rows.Side.the-variants.{Attribute, Target}
@@ -5,12 +6,12 @@ use Rattle.faults.proofs.RefLaws.{row-ends, found-skip, found-more}
 use Rattle.faults.proofs.refs.take_ref.Statement.{statement}
 use Rattle.faults.proofs.refs.take_ref.Tie as tie
 
--- where the row is known to be in force, and where both its ends are known
-abbrev start : tie.Then1 → tie.Start
-start c = c .before .before .before .before
+-- where both ends of the row are known, and the function's start
+abbrev ends : tie.After-slice-known2 → tie.After-ref-side
+ends c = c .before .before
 
-abbrev ends : tie.After-ref-side2 → tie.After-ref-side
-ends c = c .before
+abbrev start : tie.After-ref-side → tie.Start
+start c = c .before .before .before .before .before .before
 
 ref-in-force-requires : tie.Need-ref-in-force-requires
 ref-in-force-requires c κs = search needs
@@ -27,24 +28,44 @@ ref-side-requires-2 c κs = search needs
 cast-target : tie.Need-cast-target
 cast-target c = search needs
 
+slice-read-again : tie.Need-slice-read-again
+slice-read-again c = omega (arith, row-ends (start (ends c) .pre) Attribute, start (ends c) .pre .flagged)
+
+slice-write-pointing : tie.Need-slice-write-pointing
+slice-write-pointing c = omega (arith, row-ends (start (ends c) .pre) Attribute, start (ends c) .pre .flagged)
+
 is-absent-requires : tie.Need-is-absent-requires
-is-absent-requires c κs =
-    omega (arith, row-ends (start (ends c .before) .pre) Attribute)
+is-absent-requires c κs = omega (arith, row-ends (start (ends c) .pre) Attribute, start (ends c) .pre .slots)
 
 nearer-requires : tie.Need-nearer-requires
 nearer-requires c κs = search needs
 
 is-absent-requires-2 : tie.Need-is-absent-requires-2
-is-absent-requires-2 c κs = omega (arith, row-ends (start (ends (c .before .before) .before) .pre) Target)
+is-absent-requires-2 c κs =
+    let s = start (ends (c .before .before)) in
+    omega (arith, row-ends (s .pre) Target, s .pre .slots)
 
 nearer-requires-2 : tie.Need-nearer-requires-2
 nearer-requires-2 c κs = search needs
 
+nearer-requires-3 : tie.Need-nearer-requires-3
+nearer-requires-3 c κs = search needs
+
+same-length : tie.Need-same-length
+same-length c = search needs
+
 returns : tie.Need-returns
-returns c = found-more (start (ends (c .before .before .before .before) .before) .pre) (cc) (cc) (cc)
+returns c =
+    let late = c .before .before .before in
+    let known = late .before .before in
+    let row = ends known in
+    found-more (start row .pre) (sym (row .before .before .ref-in-force .ensures) ∙ row .before .if1 .taken)
+    (row .ref-side .ensures) (known .before .ref-side2 .ensures) (late .before .is-absent .ensures)
+    (late .nearer .ensures) (c .before .before .is-absent2 .ensures) (c .before .nearer2 .ensures)
+    (c .nearer3 .ensures)
 
 returns-2 : tie.Need-returns-2
-returns-2 c = found-skip (c .before .before .before .before .pre) (cc)
+returns-2 c = found-skip (c .before .before .before .before .before .pre) (cc)
 
 pub take-ref-spec : {M : Type 1} → statement M
 take-ref-spec =
@@ -55,9 +76,13 @@ take-ref-spec =
     cast-attribute
     ref-side-requires-2
     cast-target
+    slice-read-again
+    slice-write-pointing
     is-absent-requires
     nearer-requires
     is-absent-requires-2
     nearer-requires-2
+    nearer-requires-3
+    same-length
     returns
     returns-2)
