@@ -97,6 +97,7 @@ enum bw_code {
     BW_CYCLE = 14,     /* a node holds itself, by one row or a chain of rows: instant, place the node */
     BW_LATE = 15,      /* a reference is in force and its attribute is not present: instant, place the reference row */
     BW_DANGLING = 16,  /* a reference is in force and its target is not present: instant, place the reference row */
+    BW_DOUBLE = 17,    /* two or more references from one attribute are in force: instant, place the attribute's node */
     BW_ROOM = 21,      /* an output is too short: see bw_snapshot and bw_read_text */
     BW_TIE = 22,       /* rows into one child start together: instant that start, place the first row with one before */
     BW_EARLY = 23,     /* the asked instant is before the start: instant the asked one */
@@ -123,7 +124,7 @@ struct bw_reading {
 
 /*
  * Checks a history. Answers BW_DONE where it has no fault at any instant. Refuses with BW_SIZE, BW_START, BW_NODE,
- * BW_EDGE, BW_REFERENCE in this order, then with the earliest fault (BW_OVERLAP to BW_DANGLING): the earliest instant
+ * BW_EDGE, BW_REFERENCE in this order, then with the earliest fault (BW_OVERLAP to BW_DOUBLE): the earliest instant
  * that has one, there the smallest code, and there the smallest place. Writes nothing.
  */
 struct bw_answered bw_check(uint32_t start, const uint32_t *nodes, size_t nodes_len, const uint32_t *edges,
@@ -132,10 +133,11 @@ struct bw_answered bw_check(uint32_t start, const uint32_t *nodes, size_t nodes_
 /*
  * Writes what the history contains at instant t. Answers BW_DONE with instant t and place k, and the first 3k numbers
  * of out hold k rows of node, parent, referent: the root first, each node followed by the whole subtree of each of its
- * children, these by rising node number. BW_NO_NODE stands for the root's parent and for no referent. The rest of out
- * is left as it was. Refuses with BW_SIZE to BW_REFERENCE, BW_EARLY, the fault at t of smallest code and place with
- * BW_GAP set aside, BW_DEEP, and BW_ROOM (instant t, place the rows needed), in this order; then all of out is left as
- * it was. Room for BW_MOST_NODES rows is always enough.
+ * children, these by rising node number. The referent is the target of the reference in force from the node, of which
+ * there is at most one. BW_NO_NODE stands for the root's parent and for no referent. The rest of out is left as it was.
+ * Refuses with BW_SIZE to BW_REFERENCE, BW_EARLY, the fault at t of smallest code and place with BW_GAP set aside,
+ * BW_DEEP, and BW_ROOM (instant t, place the rows needed), in this order; then all of out is left as it was. Room for
+ * BW_MOST_NODES rows is always enough.
  */
 struct bw_answered bw_snapshot(uint32_t start, const uint32_t *nodes, size_t nodes_len, const uint32_t *edges,
                                size_t edges_len, const uint32_t *refs, size_t refs_len, uint32_t t, uint32_t *out,

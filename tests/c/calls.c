@@ -1,6 +1,6 @@
 /*
  * Calls every function of the library from C with document 01's input H, and compares what comes back; and holds the
- * header's numbers to the document's.
+ * header's numbers to the documents'.
  */
 #include "bindlewort.h"
 
@@ -30,8 +30,8 @@ static int is(struct bw_answered a, uint32_t code, uint32_t instant, uint32_t pl
 static void numbers(void) {
     static const uint32_t codes[] = {BW_DONE, BW_SIZE, BW_START, BW_NODE, BW_EDGE, BW_REFERENCE,
                                      BW_OVERLAP, BW_GAP, BW_OUTSIDE, BW_CYCLE, BW_LATE, BW_DANGLING,
-                                     BW_ROOM, BW_TIE, BW_EARLY, BW_DEEP, BW_TEXT, BW_TEXTROOM};
-    static const uint32_t stated[] = {0, 1, 2, 3, 4, 5, 11, 12, 13, 14, 15, 16, 21, 22, 23, 24, 31, 32};
+                                     BW_DOUBLE, BW_ROOM, BW_TIE, BW_EARLY, BW_DEEP, BW_TEXT, BW_TEXTROOM};
+    static const uint32_t stated[] = {0, 1, 2, 3, 4, 5, 11, 12, 13, 14, 15, 16, 17, 21, 22, 23, 24, 31, 32};
     expect("the codes", sizeof codes == sizeof stated && memcmp(codes, stated, sizeof codes) == 0);
     expect("the widths", BW_NODE_WIDTH == 3 && BW_EDGE_WIDTH == 4 && BW_REF_WIDTH == 4 && BW_SNAPSHOT_WIDTH == 3);
     expect("the sizes", BW_LEAST_NODES == 1 && BW_MOST_NODES == 1024 && BW_MOST_EDGES == 2048 && BW_MOST_REFS == 1024);
@@ -40,10 +40,13 @@ static void numbers(void) {
 
 static void check(void) {
     static const uint32_t shorter[] = {5, 3, 20, 99};
+    static const uint32_t two[] = {5, 3, 20, 99, 5, 1, 60, 70};
     struct bw_answered a = bw_check(0, nodes, LENGTH(nodes), edges, LENGTH(edges), refs, LENGTH(refs));
     expect("check of H", is(a, BW_DANGLING, 100, 0));
     a = bw_check(0, nodes, LENGTH(nodes), edges, LENGTH(edges), shorter, LENGTH(shorter));
     expect("check of H with the reference ending at 99", is(a, BW_DONE, 0, 0));
+    a = bw_check(0, nodes, LENGTH(nodes), edges, LENGTH(edges), two, LENGTH(two));
+    expect("check of H with two references at once", is(a, BW_DOUBLE, 60, 5));
     a = bw_check(0, nodes, LENGTH(nodes), edges, LENGTH(edges) - 1, refs, LENGTH(refs));
     expect("check of a table that is not whole rows", is(a, BW_SIZE, 0, 1));
     a = bw_check(BW_NOW, nodes, LENGTH(nodes), edges, LENGTH(edges), refs, 0);

@@ -65,6 +65,8 @@ pub mod code {
     pub const LATE: u32 = 15;
     /// A reference is in force and its target is not present.
     pub const DANGLING: u32 = 16;
+    /// Two or more references from one attribute are in force.
+    pub const DOUBLE: u32 = 17;
     /// An output is too short.
     pub const ROOM: u32 = 21;
     /// Rows into one child start together.

@@ -15,7 +15,9 @@ fn check_agrees_with_the_model() {
     for _ in 0..80_000 * rounds() {
         compare::check(tally, &any(random));
     }
-    tally.met_exactly(&[DONE, SIZE, START, NODE, EDGE, REFERENCE, OVERLAP, GAP, OUTSIDE, CYCLE, LATE, DANGLING]);
+    let rules = [SIZE, START, NODE, EDGE, REFERENCE];
+    let faults = [OVERLAP, GAP, OUTSIDE, CYCLE, LATE, DANGLING, DOUBLE];
+    tally.met_exactly(&[&[DONE], &rules[..], &faults].concat());
 }
 
 #[test]
@@ -69,14 +71,15 @@ fn repaired_histories_have_neither_overlap_nor_gap() {
 #[test]
 fn the_model_misses_no_instant() {
     let random = &mut Random::seeded(15);
-    let mut faulty = 0;
+    let (mut faulty, mut double) = (0, 0);
     for _ in 0..5_000 * rounds() {
         let History { start, nodes, edges, refs } = wild(random);
         let said = model::check(start, &nodes, &edges, &refs);
         assert_eq!(said, model::check_every_instant(start, &nodes, &edges, &refs, 25));
         faulty += usize::from(said.code >= OVERLAP);
+        double += usize::from(said.code == DOUBLE);
     }
-    assert!(faulty > 1_000, "only {faulty} of the histories have a fault");
+    assert!(faulty > 1_000 && double > 100, "only {faulty} of the histories have a fault, {double} of them DOUBLE");
 }
 
 /// Each number of sound histories set to one extreme after the other.
@@ -99,6 +102,6 @@ fn extremes_in_every_place() {
             }
         }
     }
-    checks.met_exactly(&[DONE, NODE, EDGE, REFERENCE, OVERLAP, GAP, OUTSIDE, CYCLE, LATE, DANGLING]);
+    checks.met_exactly(&[DONE, NODE, EDGE, REFERENCE, OVERLAP, GAP, OUTSIDE, CYCLE, LATE, DANGLING, DOUBLE]);
     repairs.met_exactly(&[DONE, NODE, EDGE, TIE]);
 }

@@ -2,11 +2,11 @@
 
 use bindlewort_tests::code::*;
 use bindlewort_tests::compare::{self, Tally};
-use bindlewort_tests::histories::{chain, late_fault, most_instants, ward, History, Size};
+use bindlewort_tests::histories::{chain, late_double, late_fault, most_instants, ward, History, Size};
 use bindlewort_tests::NOW;
 
 /// Tables of so many numbers that obey the row rules where they are whole rows: elements, rows into them that follow
-/// one another, no references in force at an instant without their nodes.
+/// one another, references that do so too, and none in force at an instant without its nodes.
 fn tables(nodes: usize, edges: usize, refs: usize) -> History {
     let fill = |length: usize, row: &dyn Fn(u32) -> Vec<u32>| (0u32..).flat_map(row).take(length).collect::<Vec<u32>>();
     History {
@@ -17,7 +17,7 @@ fn tables(nodes: usize, edges: usize, refs: usize) -> History {
             1 => vec![0, 2, 7, NOW],
             _ => vec![0, 3, 100 + 10 * i, 109 + 10 * i],
         }),
-        refs: fill(refs, &|i| vec![1, 2, 7 + i, NOW - i]),
+        refs: fill(refs, &|i| vec![1, 2, 7 + i, 7 + i]),
     }
 }
 
@@ -117,6 +117,11 @@ fn a_fault_at_the_last_instant_of_a_full_size_history_is_found() {
     assert!(is_full(&history));
     let said = compare::check(tally, &history);
     assert_eq!((said.code, said.instant, said.place), (OUTSIDE, 5_118, 1));
+    let history = late_double(Size::FULL);
+    assert!(is_full(&history));
+    let said = compare::check(tally, &history);
+    assert_eq!((said.code, said.instant, said.place), (DOUBLE, NOW - 1, 1_022));
+    tally.met_exactly(&[OUTSIDE, DOUBLE]);
 }
 
 #[test]
@@ -137,19 +142,33 @@ fn full_size_histories_are_repaired() {
     tally.met_exactly(&[DONE]);
 }
 
-/// One number of a full-size history changed, in places spread over all rows.
+/// One number of a full-size history one larger, in places spread over all rows; in one history numbers stay small.
 #[test]
 fn full_size_histories_hurt_in_one_place() {
     let tally = &mut Tally::of("check");
     let repairs = &mut Tally::of("repair");
-    for sound in [ward(Size::FULL), chain(Size::FULL)] {
+    for (sound, bound) in [(ward(Size::FULL), NOW), (chain(Size::FULL), 1_030)] {
         for place in (0..sound.edges.len()).step_by(1_021) {
             let mut history = sound.clone();
-            history.edges[place] = history.edges[place].wrapping_add(1) % 1_030;
+            history.edges[place] = history.edges[place].wrapping_add(1) % bound;
             compare::check(tally, &history);
             compare::repair(repairs, &history);
         }
     }
     tally.met_exactly(&[DONE, EDGE, OVERLAP, GAP, OUTSIDE, CYCLE]);
     repairs.met_exactly(&[DONE, EDGE, TIE]);
+}
+
+/// One reference of a full-size history goes on: its attribute or its target leaves, or the attribute refers again.
+#[test]
+fn full_size_histories_with_a_reference_that_does_not_end() {
+    let tally = &mut Tally::of("check");
+    for sound in [ward(Size::FULL), chain(Size::FULL), most_instants(Size::FULL)] {
+        for row in [0, 1_023] {
+            let mut history = sound.clone();
+            history.refs[4 * row + 3] = NOW;
+            compare::check(tally, &history);
+        }
+    }
+    tally.met_exactly(&[DONE, LATE, DANGLING, DOUBLE]);
 }

@@ -2,7 +2,7 @@
 
 use bindlewort_tests::code::*;
 use bindlewort_tests::compare::{rounds, snapshot, Tally};
-use bindlewort_tests::histories::{any, chain, h, most_instants, ward, History, Size};
+use bindlewort_tests::histories::{any, chain, h, late_double, most_instants, ward, History, Size};
 use bindlewort_tests::random::Random;
 use bindlewort_tests::{MOST_NODES, NOW, NO_NODE, SNAPSHOT_WIDTH};
 
@@ -50,9 +50,9 @@ fn the_root_alone() {
 }
 
 #[test]
-fn the_smallest_reference_row_in_force_is_shown() {
+fn the_reference_in_force_is_shown() {
     let mut history = h();
-    history.refs = [[5, 1, 60, 70], [5, 2, 20, 65], [5, 3, 20, 99]].concat();
+    history.refs = [[5, 1, 60, 70], [5, 2, 20, 59], [5, 3, 71, 99]].concat();
     let referent = |t| shown(&history, t).1.iter().find(|row| row[0] == 5).map(|row| row[2]);
     assert_eq!(
         (referent(59), referent(60), referent(70), referent(71), referent(100)),
@@ -73,7 +73,7 @@ fn snapshot_agrees_with_the_model() {
         snapshot(tally, &history, t, room);
     }
     let rules = [SIZE, START, NODE, EDGE, REFERENCE];
-    let faults = [OVERLAP, OUTSIDE, CYCLE, LATE, DANGLING];
+    let faults = [OVERLAP, OUTSIDE, CYCLE, LATE, DANGLING, DOUBLE];
     tally.met_exactly(&[&[DONE], &rules[..], &faults, &[ROOM, EARLY]].concat());
 }
 
@@ -101,6 +101,15 @@ fn full_size_histories() {
         }
     }
     tally.met_exactly(&[DONE, ROOM]);
+}
+
+/// The same history one instant earlier can be shown.
+#[test]
+fn two_references_at_the_last_instants_of_a_full_size_history() {
+    let history = late_double(Size::FULL);
+    assert_eq!(shown(&history, NOW - 2).0, (DONE, NOW - 2, 1_024));
+    assert_eq!(shown(&history, NOW - 1).0, (DOUBLE, NOW - 1, 1_022));
+    assert_eq!(shown(&history, NOW).0, (DOUBLE, NOW, 1_022));
 }
 
 /// The deepest chain that there can be: 1,023 rows. DEEP stays unused.

@@ -1,4 +1,4 @@
-//! Sound histories of full size, and of parts of it, in three shapes; and one with a fault at its end.
+//! Sound histories of full size, and of parts of it, in three shapes; and two with a fault at their end.
 
 use super::History;
 use crate::kind::{ELEMENT, REF_ATTRIBUTE};
@@ -30,7 +30,7 @@ fn nodes_of(kinds: impl Iterator<Item = u32>) -> Vec<u32> {
 
 /// A shallow ward: an eighth of the nodes are beds under the root that stay; an eighth are REF attributes in beds that
 /// stay; the rest are patients who move from bed to bed, stay after stay, and leave. References from attributes to
-/// patients.
+/// patients, one at a time from each.
 pub fn ward(size: Size) -> History {
     let mut random = Random::seeded(1);
     let beds = size.nodes / 8;
@@ -57,15 +57,24 @@ pub fn ward(size: Size) -> History {
         }
         let referred = size.refs / patients + usize::from(i < size.refs % patients);
         for _ in 0..referred {
-            let from_ref = random.between(admitted as usize, from as usize - 2) as u32;
-            let to_ref = random.between(from_ref as usize, from as usize - 1) as u32;
-            refs.push([random.between(beds + 1, beds + attributes) as u32, patient, from_ref, to_ref]);
+            // Drawn anew until the attribute refers to nobody else meanwhile.
+            let reference = loop {
+                let attribute = random.between(beds + 1, beds + attributes) as u32;
+                let from_ref = random.between(admitted as usize, from as usize - 2) as u32;
+                let to_ref = random.between(from_ref as usize, from as usize - 1) as u32;
+                let meets = |row: &[u32; 4]| row[0] == attribute && row[2] <= to_ref && from_ref <= row[3];
+                if !refs.iter().any(meets) {
+                    break [attribute, patient, from_ref, to_ref];
+                }
+            };
+            refs.push(reference);
         }
     }
     History { start: 0, nodes: nodes_of((1..size.nodes).map(kind)), edges: edges.concat(), refs: refs.concat() }
 }
 
 /// A chain: all nodes but 24 hold one another, a thousand deep at full size, and stay; the others move along the chain.
+/// Half of these are REF attributes, each with one reference after another to nodes of the chain.
 pub fn chain(size: Size) -> History {
     let mut random = Random::seeded(2);
     let deep = size.nodes - 24;
@@ -84,15 +93,14 @@ pub fn chain(size: Size) -> History {
     }
     let attributes: Vec<u32> =
         (deep as u32 + 1..size.nodes as u32).filter(|&n| kind(n as usize) == REF_ATTRIBUTE).collect();
+    let mut free = vec![0; size.nodes];
     let mut refs = vec![];
     for _ in 0..size.refs {
-        let from = random.below(400_000) as u32;
-        refs.push([
-            random.pick(&attributes),
-            random.between(1, deep) as u32,
-            from,
-            from + random.below(400_000) as u32,
-        ]);
+        let attribute = random.pick(&attributes);
+        let from = free[attribute as usize] + random.below(4_000) as u32;
+        let to = from + random.below(8_000) as u32;
+        free[attribute as usize] = to + 1;
+        refs.push([attribute, random.between(1, deep) as u32, from, to]);
     }
     History { start: 0, nodes: nodes_of((1..size.nodes).map(kind)), edges: edges.concat(), refs: refs.concat() }
 }
@@ -101,13 +109,14 @@ pub fn chain(size: Size) -> History {
 /// its own, and so does what is one past the last end of each node and past the end of each reference.
 ///
 /// In this order: the nodes come, the references start, the nodes move on (some twice), the references end, the nodes
-/// leave. The first sixteenth of the nodes are beds, which come first and leave last.
+/// leave. The first sixteenth of the nodes are beds, which come first and leave last. The others are REF attributes
+/// that refer to beds: some twice, one reference after the other.
 pub fn most_instants(size: Size) -> History {
     let mut random = Random::seeded(3);
     let others = size.nodes as u32 - 1;
     let beds = others / 16;
-    let half = others / 2;
-    let kind = |n: usize| if n as u32 > half { REF_ATTRIBUTE } else { ELEMENT };
+    let attributes = others - beds;
+    let kind = |n: usize| if n as u32 > beds { REF_ATTRIBUTE } else { ELEMENT };
     let mut clock = 0;
     let mut tick = || {
         clock += 1;
@@ -122,7 +131,10 @@ pub fn most_instants(size: Size) -> History {
         edges.push([bed(n), n, tick(), NOW]);
     }
     for k in 0..size.refs as u32 {
-        refs.push([half + 1 + k % (others - half), 1 + k % half, tick(), NOW]);
+        if k >= attributes {
+            refs[(k - attributes) as usize][3] = tick() - 1;
+        }
+        refs.push([beds + 1 + k % attributes, 1 + k % beds, tick(), NOW]);
     }
     for i in 0..size.edges as u32 - others {
         let n = 1 + i % others;
@@ -131,7 +143,7 @@ pub fn most_instants(size: Size) -> History {
         open[n as usize] = edges.len();
         edges.push([bed(n), n, from, NOW]);
     }
-    for row in &mut refs {
+    for row in refs.iter_mut().filter(|row| row[3] == NOW) {
         row[3] = tick() - 1;
     }
     for n in (1..=others).rev() {
@@ -147,5 +159,17 @@ pub fn late_fault(size: Size) -> History {
     let stays = history.edges.chunks(4).rposition(|row| row[0] == 1).unwrap();
     assert!(history.edges[4 * stays + 3] < last);
     history.edges[4 * stays + 3] = NOW;
+    history
+}
+
+/// The chain with two references of its last REF attribute from the last instant on at which a row may start. They are
+/// the first and the last of the table.
+pub fn late_double(size: Size) -> History {
+    let mut history = chain(size);
+    let attribute = size.nodes as u32 - 2;
+    let last = history.refs.len() - 4;
+    for (row, target) in [(0, 1), (last, 2)] {
+        history.refs[row..row + 4].copy_from_slice(&[attribute, target, NOW - 1, NOW]);
+    }
     history
 }

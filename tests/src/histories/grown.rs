@@ -91,9 +91,23 @@ impl Ward {
         }
     }
 
+    /// The nodes of a kind that are present.
+    fn of_kind(&self, kind: u32) -> Vec<usize> {
+        (1..self.kinds.len()).filter(|&n| self.kinds[n] == kind && self.present(n)).collect()
+    }
+
+    /// The row of an attribute's current reference.
+    fn reference(&self, attribute: usize) -> Option<usize> {
+        self.refs.iter().position(|r| r[0] == attribute as u32 && r[3] == NOW)
+    }
+
+    /// An attribute refers to one target at a time: its current reference ends first. One that starts only now cannot
+    /// end before, and stays.
     fn refer(&mut self, attribute: usize, target: usize) {
-        let kinds = self.kinds[attribute] == REF_ATTRIBUTE && self.kinds[target] == ELEMENT;
-        if kinds && self.present(attribute) && self.present(target) {
+        if let Some(row) = self.reference(attribute) {
+            self.end_reference(row);
+        }
+        if self.reference(attribute).is_none() {
             self.refs.push([attribute as u32, target as u32, self.now, NOW]);
         }
     }
@@ -128,7 +142,12 @@ pub fn grown(random: &mut Random, nodes: usize, steps: usize) -> History {
         match random.below(10) {
             0..=2 => ward.admit(any, one),
             3 | 4 => ward.move_to(one, other),
-            5..=7 => ward.refer(one, other),
+            5..=7 => {
+                let (attributes, targets) = (ward.of_kind(REF_ATTRIBUTE), ward.of_kind(ELEMENT));
+                if !attributes.is_empty() && !targets.is_empty() {
+                    ward.refer(random.pick(&attributes), random.pick(&targets));
+                }
+            }
             8 if random.once_in(3) => ward.discharge(one),
             _ if !ward.refs.is_empty() => ward.end_reference(random.below(ward.refs.len())),
             _ => {}

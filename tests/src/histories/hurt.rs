@@ -59,11 +59,29 @@ fn hurt_rows(random: &mut Random, rows: &mut Vec<u32>, start: u32, instants: &[u
     }
 }
 
+/// Refers a second time from the attribute of a row, to the same target or to another row's. The row itself goes on, or
+/// ends after the second one's start, at it, or just before, which is no fault.
+pub fn refer_twice(random: &mut Random, refs: &mut Vec<u32>) {
+    if refs.len() < 4 {
+        return;
+    }
+    let at = 4 * random.below(refs.len() / 4);
+    let other = 4 * random.below(refs.len() / 4);
+    let place = 4 * random.below(refs.len() / 4 + 1);
+    let (from, to) = (refs[at + 2], refs[at + 3]);
+    let near = from.saturating_add(random.below(4) as u32).min(to);
+    let target = refs[random.pick(&[at, other]) + 1];
+    let start = random.pick(&[from, near, near.saturating_add(1)]);
+    let second = [refs[at], target, start, to.max(start)];
+    refs[at + 3] = random.pick(&[near, to]);
+    refs.splice(place..place, second);
+}
+
 /// Hurts a history in one place.
 pub fn hurt(random: &mut Random, history: &mut History) {
     let mut instants = history.label_numbers();
     instants.push(history.start);
-    match random.below(24) {
+    match random.below(28) {
         0 => history.start = harm(random, history.start, &instants, history.start),
         1 | 2 => {
             let place = random.below(history.nodes.len().max(1));
@@ -77,12 +95,13 @@ pub fn hurt(random: &mut Random, history: &mut History) {
             }
         }
         4..=9 => hurt_rows(random, &mut history.refs, history.start, &instants),
+        10..=13 => refer_twice(random, &mut history.refs),
         _ => hurt_rows(random, &mut history.edges, history.start, &instants),
     }
 }
 
 /// Small tables whose rows obey the rules and whose labels lie close together. Nothing begins or ends between 20 and
-/// Now.
+/// Now. In some of them all nodes stay, so that the references alone can be at fault.
 pub fn wild(random: &mut Random) -> History {
     let nodes = random.between(1, 6);
     let mut history = History::of_elements(nodes - 1);
@@ -107,7 +126,10 @@ pub fn wild(random: &mut Random) -> History {
         (0..count).flat_map(&mut row).collect()
     };
     history.edges = rows(pairs(|parent, child| parent <= 1 && child >= 1), 7);
-    history.refs = rows(pairs(|attribute, target| attribute == REF_ATTRIBUTE && target == ELEMENT), 2);
+    history.refs = rows(pairs(|attribute, target| attribute == REF_ATTRIBUTE && target == ELEMENT), 4);
+    if random.once_in(3) {
+        history.edges = (1..nodes as u32).flat_map(|n| [0, n, 0, NOW]).collect();
+    }
     history
 }
 

@@ -5,9 +5,9 @@ mod full;
 mod grown;
 mod hurt;
 
-pub use full::{chain, late_fault, most_instants, ward, Size};
+pub use full::{chain, late_double, late_fault, most_instants, ward, Size};
 pub use grown::grown;
-pub use hurt::{any, hurt, random_tables, wild};
+pub use hurt::{any, hurt, random_tables, refer_twice, wild};
 
 use crate::kind::ELEMENT;
 use crate::random::Random;

@@ -86,7 +86,16 @@ impl<'a> Moment<'a> {
         self.history.refs.iter().position(|row| row.in_force(self.t) && !self.present(row.other))
     }
 
-    /// The smallest code, and there the smallest place.
+    /// 17: "two or more references from one attribute are in force at t, place the attribute's node number"
+    fn double(&self) -> Option<usize> {
+        let mut from = vec![0; self.history.nodes];
+        for row in self.history.refs.iter().filter(|row| row.in_force(self.t)) {
+            from[row.one] += 1;
+        }
+        (0..self.history.nodes).find(|&n| from[n] >= 2)
+    }
+
+    /// The smallest code, and there the smallest place. "17 after 16, in check and snapshot".
     pub(super) fn fault(&self, with_gap: bool) -> Option<Answered> {
         let said = |code: u32, place: Option<usize>| place.map(|p| answer(code, self.t, p));
         said(11, self.overlap())
@@ -95,6 +104,7 @@ impl<'a> Moment<'a> {
             .or_else(|| said(14, self.cycle()))
             .or_else(|| said(15, self.late()))
             .or_else(|| said(16, self.dangling()))
+            .or_else(|| said(17, self.double()))
     }
 }
 

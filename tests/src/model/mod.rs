@@ -1,6 +1,7 @@
-//! A model of document 01, written from its words and from nothing else, clear rather than fast. What stands in quotes
-//! is the document's, and codes and kinds are its numbers. Here are the rows and their rules; the other files have the
-//! faults at an instant, the calls on tables, and those on text.
+//! A model of document 01 with Ask 1 of document 02, "Two patients on one session". It is written from their words and
+//! from nothing else, clear rather than fast. What stands in quotes is theirs, and codes and kinds are their numbers.
+//! Here are the rows and their rules; the other files have the faults at an instant, the calls on tables, and those on
+//! text.
 
 mod calls;
 mod faults;

@@ -77,6 +77,31 @@ fn comes_back(up: &[u32; MOST_NODES], n: usize, c: usize) -> bool {
     false
 }
 
+/// LATE, DANGLING and DOUBLE: one pass finds the smallest row of the first two and the smallest attribute of the third.
+fn references(up: &[u32; MOST_NODES], refs: &[u32], t: u32) -> Option<Answered> {
+    let nowhere = usize::MAX;
+    let (mut late, mut dangling, mut double) = (nowhere, nowhere, nowhere);
+    let mut refers = [false; MOST_NODES];
+    for (i, row) in refs.chunks_exact(REF_WIDTH).enumerate() {
+        if !in_force(row, t) {
+            continue;
+        }
+        let (attribute, target) = (row[0] as usize, row[1] as usize);
+        if absent(up, attribute) {
+            late = late.min(i);
+        }
+        if absent(up, target) {
+            dangling = dangling.min(i);
+        }
+        if refers[attribute] {
+            double = double.min(attribute);
+        }
+        refers[attribute] = true;
+    }
+    let found = [(LATE, late), (DANGLING, dangling), (DOUBLE, double)].into_iter().find(|fault| fault.1 != nowhere);
+    found.map(|(code, place)| answer(code, t, place))
+}
+
 /// The codes after GAP.
 pub fn after_gap(up: &[u32; MOST_NODES], n: usize, refs: &[u32], t: u32) -> Option<Answered> {
     if let Some(place) = outside(up, n) {
@@ -87,13 +112,7 @@ pub fn after_gap(up: &[u32; MOST_NODES], n: usize, refs: &[u32], t: u32) -> Opti
             return Some(answer(CYCLE, t, place));
         }
     }
-    for (side, code) in [(0, LATE), (1, DANGLING)] {
-        let astray = |row: &[u32]| in_force(row, t) && absent(up, row[side] as usize);
-        if let Some(place) = refs.chunks_exact(REF_WIDTH).position(astray) {
-            return Some(answer(code, t, place));
-        }
-    }
-    None
+    references(up, refs, t)
 }
 
 pub fn overlap(up: &[u32; MOST_NODES], n: usize, t: u32) -> Option<Answered> {
