@@ -52,26 +52,13 @@ abbrev pub cellAt : ℕ → List ℕ → ℕ → ℕ → ℕ
 cellAt w xs i k = getD xs (i * w + k) 0
 
 unfoldable pub nodeAt : List ℕ → ℕ → NodeRow
-nodeAt ns i =
-    record { kind = cellAt nodeWidth ns i 0; label = cellAt nodeWidth ns i 1; value = cellAt nodeWidth ns i 2 }
+nodeAt ns i = let c = cellAt nodeWidth ns i in record { kind = c 0; label = c 1; value = c 2 }
 
 unfoldable pub edgeAt : List ℕ → ℕ → EdgeRow
-edgeAt es i =
-    record {
-      parent = cellAt edgeWidth es i 0;
-      child = cellAt edgeWidth es i 1;
-      from = cellAt edgeWidth es i 2;
-      to = cellAt edgeWidth es i 3;
-    }
+edgeAt es i = let c = cellAt edgeWidth es i in record { parent = c 0; child = c 1; from = c 2; to = c 3 }
 
 unfoldable pub refAt : List ℕ → ℕ → RefRow
-refAt rs i =
-    record {
-      attribute = cellAt refWidth rs i 0;
-      target = cellAt refWidth rs i 1;
-      from = cellAt refWidth rs i 2;
-      to = cellAt refWidth rs i 3;
-    }
+refAt rs i = let c = cellAt refWidth rs i in record { attribute = c 0; target = c 1; from = c 2; to = c 3 }
 
 -- numbers that were lent, and a count of rows: SIZE asks that they agree
 pub record Table : Type 0 where
