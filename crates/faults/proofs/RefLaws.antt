@@ -15,11 +15,9 @@ use Rattle.ground.specs.Least.{Any, Least}
 use Rattle.ground.specs.Searches.{Passes, least}
 use Rattle.ground.proofs.TestLaws.{tells-fail}
 use Rattle.ground.proofs.LeastLaws.{least-nearer, least-same, least-missed, least-unique, least-tells, any-suc}
-use Rattle.tables.specs.declared.rows.Side.{Side}
 use Rattle.tables.specs.declared.rows.Side.the-variants.{Attribute, Target}
 use Rattle.tables.specs.Tables.{During, RefRow, refAt}
 use Rattle.tables.specs.Labels.{during}
-use Rattle.tables.specs.Rows.{sideOf}
 use Rattle.tables.specs.Rules.{mostNodes}
 use Rattle.tables.proofs.LabelLaws.{during-tells}
 use Rattle.history.specs.Faults.{RefersFrom, Double}
@@ -132,8 +130,8 @@ module _ {rs : List ℕ} {k n t : ℕ} {up : List ℕ} where
       record { late = so-far-all _ (f .late); dangling = so-far-all _ (f .dangling); double = f .double }
 
   module _ {j : ℕ} {r : RefFaults} {flags : List Bool} (f : Finding rs k n t up j r flags) where
-    pub row-ends : (side : Side) → sideOf side (refAt rs j) < n
-    row-ends side = f .refers .ends side j (f .row)
+    pub row-ends : (refAt rs j .attribute < n) × (refAt rs j .target < n)
+    row-ends = (f .refers .ends Attribute j (f .row), f .refers .ends Target j (f .row))
 
     -- row j is not in force
     pub found-skip : during (refAt rs j .from) (refAt rs j .to) t ≡ false → Found rs k n t up (j + 1) r flags
@@ -155,7 +153,7 @@ module _ {rs : List ℕ} {k n t : ℕ} {up : List ℕ} where
         → Found rs k n t up (j + 1) (record { late = l; dangling = d; double = c }) (set flags a true)
     found-more e ea eb eu el ev ed ec =
         let on = during-tells _ _ t .0 e in
-        let far : refAt rs j .attribute < length flags = omega (arith, f .flagged, row-ends Attribute) in
+        let far : refAt rs j .attribute < length flags = omega (arith, f .flagged, row-ends) in
         record {
           late =
               rw (e, ← ea, ← eu, ← el) at (so-far-more (strayAt rs k n t up Attribute) (f .row) (f .found .late));
@@ -163,6 +161,6 @@ module _ {rs : List ℕ} {k n t : ℕ} {up : List ℕ} where
               rw (e, ← eb, ← ev, ← ed) at (so-far-more (strayAt rs k n t up Target) (f .row) (f .found .dangling));
           double =
               rw (← ea, ← ec) at
-              (double-more (refAt rs) t on _ (f .found .flags _ far) (row-ends Attribute) (f .found .double));
+              (double-more (refAt rs) t on _ (f .found .flags _ far) (row-ends .0) (f .found .double));
           flags = rw ea (flags-set (refAt rs) t on flags far (f .found .flags));
         }

@@ -1,7 +1,6 @@
 use mathlib.Core.Path.{sym, _∙_}
 use borrow.Author.Needs.{needs}
 use native.Mathlib.Omega.{arith}
-use Rattle.tables.specs.declared.rows.Side.the-variants.{Attribute, Target}
 use Rattle.faults.proofs.RefLaws.{row-ends, found-skip, found-more}
 use Rattle.faults.proofs.refs.take_ref.Statement.{statement}
 use Rattle.faults.proofs.refs.take_ref.Tie as tie
@@ -29,13 +28,13 @@ cast-target : tie.Need-cast-target
 cast-target c = search needs
 
 slice-read-again : tie.Need-slice-read-again
-slice-read-again c = omega (arith, row-ends (start (ends c) .pre) Attribute, start (ends c) .pre .flagged)
+slice-read-again c = omega (arith, row-ends (start (ends c) .pre), start (ends c) .pre .flagged)
 
 slice-write-pointing : tie.Need-slice-write-pointing
-slice-write-pointing c = omega (arith, row-ends (start (ends c) .pre) Attribute, start (ends c) .pre .flagged)
+slice-write-pointing c = omega (arith, row-ends (start (ends c) .pre), start (ends c) .pre .flagged)
 
 is-absent-requires : tie.Need-is-absent-requires
-is-absent-requires c κs = omega (arith, row-ends (start (ends c) .pre) Attribute, start (ends c) .pre .slots)
+is-absent-requires c κs = omega (arith, row-ends (start (ends c) .pre), start (ends c) .pre .slots)
 
 nearer-requires : tie.Need-nearer-requires
 nearer-requires c κs = search needs
@@ -43,7 +42,7 @@ nearer-requires c κs = search needs
 is-absent-requires-2 : tie.Need-is-absent-requires-2
 is-absent-requires-2 c κs =
     let s = start (ends (c .before .before)) in
-    omega (arith, row-ends (s .pre) Target, s .pre .slots)
+    omega (arith, row-ends (s .pre), s .pre .slots)
 
 nearer-requires-2 : tie.Need-nearer-requires-2
 nearer-requires-2 c κs = search needs
