@@ -1,5 +1,5 @@
 -- The pass over the references: what it has found after one row more, and after all. Assumes nothing.
-use mathlib.Core.Path.{_≡_, refl, subst, sym, _∙_}
+use mathlib.Core.Path.{_≡_, subst, sym, _∙_}
 use mathlib.Core.Logic.{_⊎_, inl, inr, ⊎-elim, Iff·rfl}
 use mathlib.Core.Bool.{Bool, true, false, cond, _&&_, false≢true}
 use mathlib.Core.List.{List}
@@ -68,8 +68,10 @@ module _ (R : ℕ → RefRow) (t : ℕ) {j : ℕ} where
   -- the flag of a node from which row j is not in force still tells
   flag-stays : (a : ℕ) {b : Bool} → (RefersFrom R t a j → ⊥) → Tells b (Any (RefersFrom R t a) j)
       → Tells b (Any (RefersFrom R t a) (j + 1))
-  flag-stays a f tells =
-      (λ e. any-wider a (tells .0 e), λ s. tells .1 (⊎-elim (λ x. absurd (f x)) (λ r. r) (any-suc _ j .1 (rw add-one at s))))
+  flag-stays a f tells = (
+    λ e. any-wider a (tells .0 e),
+    λ s. tells .1 (⊎-elim (λ x. absurd (f x)) (λ r. r) (any-suc _ j .1 (rw add-one at s))),
+  )
 
   -- row j is not in force
   module _ (off : During (R j .from) (R j .to) t → ⊥) where
@@ -83,7 +85,8 @@ module _ (R : ℕ → RefRow) (t : ℕ) {j : ℕ} where
   -- it is, and a flag says whether one before it is from the same node
   module _ (on : During (R j .from) (R j .to) t) where
     double-more : {n x : ℕ} (b : Bool) → Tells b (Any (RefersFrom R t (R j .attribute)) j) → R j .attribute < n
-        → Least (Double R t j) n x → Least (Double R t (j + 1)) n (cond (b && ltb (R j .attribute) x) (R j .attribute) x)
+        → Least (Double R t j) n x
+        → Least (Double R t (j + 1)) n (cond (b && ltb (R j .attribute) x) (R j .attribute) x)
     double-more b tells h l = least-same (λ a g. there a) (λ a g. back a) (least-nearer b h l)
       where
         there : (a : ℕ) → Double R t j a ⊎ ((a ≡ R j .attribute) × (b ≡ true)) → Double R t (j + 1) a

@@ -158,7 +158,7 @@ module _ (R : ℕ → RefRow) (t a : ℕ) where
   refers-from-tells k = tells-and _ _ (tells-eq (R k .attribute) a) (during-tells _ _ t)
 
   -- a reference in force, and one before it
-  pub double-again : (m : ℕ) → Any (λ k. RefersFrom R t a k × Any (RefersFrom R t a) k) m ↔ Double R t m a
+  double-again : (m : ℕ) → Any (λ k. RefersFrom R t a k × Any (RefersFrom R t a) k) m ↔ Double R t m a
   double-again m = (λ (k, h, (y, (j, g, x))). (j, k, g, h, x, y), λ (j, k, g, h, x, y). (k, h, (y, (j, g, x))))
 
   pub double-tells : (m : ℕ) → Tells (doubles R t m a) (Double R t m a)

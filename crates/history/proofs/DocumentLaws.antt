@@ -1,5 +1,5 @@
--- Agreement with the paper: no instant has a fault exactly if the history is a Temporal XML Document and, which the paper
--- does not ask, no instant has two references in force from one attribute. Assumes nothing.
+-- Agreement with the paper: no instant has a fault exactly if the history is a Temporal XML Document and, which the
+-- paper does not ask, no instant has two references in force from one attribute. Assumes nothing.
 use mathlib.Core.Path.{refl, _∙_}
 use mathlib.Core.Logic.{_≢_, inl, inr, ⊎-elim, _↔_}
 use Prim.Native.Nat.{ℕ, _≤_, _<_}

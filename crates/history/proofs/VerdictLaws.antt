@@ -40,8 +40,8 @@ names-unique F t (none n) (first b) = absurd (n _ (b .holds))
 names-unique F t (first a) (none k) = absurd (k _ (a .holds))
 names-unique F t (first a) (first b) = ap (Faulty t) (first-unique F _ _ a b)
 
--- accepted exactly if the history is a Temporal XML Document with one reference in force at a time; demand 3: exactly if the sentence holds at every instant;
--- otherwise the earliest instant at which it fails
+-- accepted exactly if the history is a Temporal XML Document with at most one reference in force per attribute; demand
+-- 3: exactly if the sentence holds at every instant; otherwise the earliest instant at which it fails
 module _ (H : History) (r : Ruled H) where
   faultless-of : Verdict H passed → (t : ℕ) → t ≤ Now → Faultless H t
   faultless-of (accepted n) = n

@@ -32,7 +32,8 @@ module _ (L : Tables) (t : ℕ) where
 
   -- [demand 2] "A snapshot shows exactly what was contained at its instant."
   pub shown-exact : Ready L t → {xs : List ShownRow} → ShownRows H t xs → Exact H t xs
-  shown-exact r x = rw (shown-is L t r x) (rows-exact H t (ready-ruled L t r) (ready-tree L t r) (r .begun) (ready-one L t r))
+  shown-exact r x =
+      rw (shown-is L t r x) (rows-exact H t (ready-ruled L t r) (ready-tree L t r) (r .begun) (ready-one L t r))
 
   -- the rows that are needed, and those that are shown, are the root's and one for each other node that is present
   pub rows-needed : Ready L t → {xs : List ShownRow} → ShownRows H t xs

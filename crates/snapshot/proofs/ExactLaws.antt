@@ -39,7 +39,7 @@ module _ (H : History) (t : ℕ) (sole : OneReference H t) where
       one h x (λ j g y. sole j k (g, y .1) (h, x .1) (y .0 ∙ sym (x .0)))
   referent-one (no-target f) = no-reference f
 
-  pub one-shown : (n : ℕ) → OneReferent H t n (referentAt (H .refs) (H .ref) t n)
+  one-shown : (n : ℕ) → OneReferent H t n (referentAt (H .refs) (H .ref) t n)
   one-shown n = referent-one (referent-shown H t n)
 
 module _ (H : History) (t : ℕ) (ruled : Ruled H) (tree : Tree (H .edges) (H .edge) t) where
