@@ -147,7 +147,8 @@ struct bw_answered bw_snapshot(uint32_t start, const uint32_t *nodes, size_t nod
  * Repairs overlaps and gaps. Answers BW_DONE with place the count of rows whose end was changed; only ends change.
  * Among the rows into one child, each then ends one instant before the next later start, and the row with the latest
  * start ends at the largest end that any of them had. Refuses with BW_SIZE, BW_START, BW_NODE, BW_EDGE, BW_TIE in this
- * order; then edges is left as it was. Faults from BW_OUTSIDE on may remain or come: check afterwards.
+ * order; then edges is left as it was. Faults from BW_OUTSIDE on may remain, and all but BW_DOUBLE may come: check
+ * afterwards.
  */
 struct bw_answered bw_repair(uint32_t start, const uint32_t *nodes, size_t nodes_len, uint32_t *edges,
                              size_t edges_len);

@@ -13,6 +13,8 @@ static const uint32_t nodes[] = {0, 1, 0, 1, 2, 0, 1, 2, 0, 1, 3, 0, 1, 4, 0, 4,
 static const uint32_t edges[] = {0, 1, 0, BW_NOW, 0, 2, 0, BW_NOW, 1, 3, 10, 49,
                                  2, 3, 50, 99, 1, 4, 20, 120, 4, 5, 20, 120};
 static const uint32_t refs[] = {5, 3, 20, 120};
+/* Two references of one attribute: both are in force from 60 to 70. */
+static const uint32_t two[] = {5, 3, 20, 99, 5, 1, 60, 70};
 
 static int failures = 0;
 
@@ -40,7 +42,6 @@ static void numbers(void) {
 
 static void check(void) {
     static const uint32_t shorter[] = {5, 3, 20, 99};
-    static const uint32_t two[] = {5, 3, 20, 99, 5, 1, 60, 70};
     struct bw_answered a = bw_check(0, nodes, LENGTH(nodes), edges, LENGTH(edges), refs, LENGTH(refs));
     expect("check of H", is(a, BW_DANGLING, 100, 0));
     a = bw_check(0, nodes, LENGTH(nodes), edges, LENGTH(edges), shorter, LENGTH(shorter));
@@ -87,6 +88,9 @@ static void snapshot(void) {
     expect("snapshot of H at 50", is(a, BW_DONE, 50, 6));
     expect("its rows", memcmp(out, shown, sizeof shown) == 0);
     expect("the number after them", out[LENGTH(shown)] == 77);
+    a = bw_snapshot(0, nodes, LENGTH(nodes), edges, LENGTH(edges), two, LENGTH(two), 60, out, LENGTH(out));
+    expect("snapshot of H with two references at once", is(a, BW_DOUBLE, 60, 5));
+    expect("the rows as they were", memcmp(out, shown, sizeof shown) == 0 && out[LENGTH(shown)] == 77);
     a = bw_snapshot(0, nodes, BW_NODE_WIDTH, NULL, 0, NULL, 0, 0, NULL, 0);
     expect("snapshot of the root alone without room", is(a, BW_ROOM, 0, 1));
 }

@@ -168,6 +168,17 @@ fn the_double_is_named_before_missing_room() {
     assert_eq!((said.code, said.instant, said.place), (DOUBLE, 10, 3));
 }
 
+/// Repair is lent no references: it mends the stays, and the double is left.
+#[test]
+fn repair_leaves_the_double() {
+    let mut history = double_and(&[(3, [0, 4, 0, 9])]);
+    history.edges.extend([0, 4, 5, NOW]);
+    assert_eq!(check(&history), (OVERLAP, 5, 4));
+    let (said, edges) = compare::repair(&mut Tally::of("repair"), &history);
+    assert_eq!((said.code, said.place), (DONE, 1));
+    assert_eq!(check(&History { edges, ..history }), (DOUBLE, 10, 3));
+}
+
 #[test]
 fn the_last_instants() {
     let touching = ward(&[[3, 1, 0, NOW - 1], [3, 2, NOW - 1, NOW]]);

@@ -1,4 +1,4 @@
-// What the calls answer. Document 01's numbers stand in specs/Numbers.antt and, for the running program, in the two
+// What the calls answer. The documents' numbers stand in specs/Numbers.antt and, for the running program, in the two
 // functions `code` below: nowhere else in the library.
 ghost use mathlib.Core.Path.{_≡_};
 ghost use Rattle.answers.specs.Numbers.{codeOf, numbers, refuses};

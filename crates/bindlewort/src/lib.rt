@@ -11,7 +11,7 @@ use tables::rows::EDGE_WIDTH;
 use tables::rows::NODE_WIDTH;
 use tables::rows::REF_WIDTH;
 
-// An answer in document 01's numbers.
+// An answer in the documents' numbers.
 #[repr(C)]
 pub struct Answered {
     pub code: u32,

@@ -35,11 +35,9 @@ use Rattle.faults.specs.Judged.{Seen, Clear, Finds, Rest}
 use Rattle.faults.proofs.LeafLaws.{View, many-tells, absent-tells, gap-tells, parts-outside, outside-parts}
 use Rattle.faults.proofs.LeafLaws.{back-cycle, cycle-back}
 
--- the ends of a history's references are below any number that is no smaller than the count of nodes
-pub lent-referring : {start n m k : ℕ} {es rs : List ℕ} → LentRows start n es m rs k → (w : ℕ) → n ≤ w
-    → Referring rs k w
-lent-referring l w h =
-    record { rows = l .ref-rows; ends = λ side j g. omega (arith, ruled-side _ (l .ruled) side j g) }
+-- the ends of a history's references are nodes
+pub lent-referring : {start n m k : ℕ} {es rs : List ℕ} → LentRows start n es m rs k → Referring rs k n
+lent-referring l = record { rows = l .ref-rows; ends = ruled-side _ (l .ruled) }
 
 module _ {H : History} {t : ℕ} {up : List ℕ} (s : Seen H t up) where
   pub view : View (H .edges) (H .edge) t (H .nodes) up

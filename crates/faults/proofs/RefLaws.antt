@@ -1,18 +1,18 @@
 -- The pass over the references: what it has found after one row more, and after all. Assumes nothing.
 use mathlib.Core.Path.{_≡_, subst, sym, _∙_}
 use mathlib.Core.Logic.{_⊎_, inl, inr, ⊎-elim, Iff·rfl}
-use mathlib.Core.Bool.{Bool, true, false, cond, _&&_, false≢true}
+use mathlib.Core.Bool.{Bool, true, false, false≢true}
 use mathlib.Core.List.{List}
 use Prim.Native.Nat.{ℕ, _+_, _<_}
 use native.Mathlib.Decide.{ℕ-discrete}
+use native.Mathlib.Nat.{eq-or-lt-of-le}
 use native.Mathlib.Numerals.{add-one}
 use native.Mathlib.Omega.{arith}
-use lib.Dec.{ltb}
 use lib.ListN.{length, getD, set, replicate, length-set, getD-replicate, length-replicate}
 use lib.Seq.{getD-set-same, getD-set-other}
 use Rattle.ground.specs.Tests.{Tells}
 use Rattle.ground.specs.Least.{Any, Least}
-use Rattle.ground.specs.Searches.{Passes, least}
+use Rattle.ground.specs.Searches.{Passes, least, nearer}
 use Rattle.ground.proofs.TestLaws.{tells-fail}
 use Rattle.ground.proofs.LeastLaws.{least-nearer, least-same, least-missed, least-unique, least-tells, any-suc}
 use Rattle.tables.specs.declared.rows.Side.the-variants.{Attribute, Target}
@@ -27,18 +27,14 @@ use Rattle.faults.specs.Refs.{strayAt, SoFar, Flags, Found, Finding, Lea
 
 module _ (p : ℕ → Bool) where
   so-far-or : (j i : ℕ) → SoFar p (j + 1) i → SoFar p j i ⊎ ((i ≡ j) × (p j ≡ true))
-  so-far-or j i (h, e) = go (ℕ-discrete i j)
-    where
-      go : Dec (i ≡ j) → SoFar p j i ⊎ ((i ≡ j) × (p j ≡ true))
-      go (yes q) = inr (q, subst (Passes p) q e)
-      go (no q) = inl (omega arith, e)
+  so-far-or j i (h, e) = ⊎-elim (λ q. inr (q, subst (Passes p) q e)) (λ g. inl (g, e)) (eq-or-lt-of-le (omega arith))
 
   or-so-far : (j i : ℕ) → SoFar p j i ⊎ ((i ≡ j) × (p j ≡ true)) → SoFar p (j + 1) i
   or-so-far j i (inl (h, e)) = (omega arith, e)
   or-so-far j i (inr (q, e)) = (omega arith, subst (Passes p) (sym q) e)
 
   -- one place more; no place yet, and all places
-  so-far-more : {k j x : ℕ} → j < k → Least (SoFar p j) k x → Least (SoFar p (j + 1)) k (cond (p j && ltb j x) j x)
+  so-far-more : {k j x : ℕ} → j < k → Least (SoFar p j) k x → Least (SoFar p (j + 1)) k (nearer x (p j) j)
   so-far-more {j = j} h l = least-same (λ i g. or-so-far j i) (λ i g. so-far-or j i) (least-nearer (p j) h l)
 
   so-far-none : {k : ℕ} → Least (SoFar p 0) k k
@@ -53,23 +49,18 @@ module _ (p : ℕ → Bool) where
 module _ (R : ℕ → RefRow) (t : ℕ) {j : ℕ} where
   -- a DOUBLE of the first j + 1 rows is one of the first j, or row j is its second
   double-or : (a : ℕ) → Double R t (j + 1) a → Double R t j a ⊎ (RefersFrom R t a j × Any (RefersFrom R t a) j)
-  double-or a (i, k, g, h, x, y) = go (ℕ-discrete k j)
-    where
-      go : Dec (k ≡ j) → Double R t j a ⊎ (RefersFrom R t a j × Any (RefersFrom R t a) j)
-      go (yes e) = inr (subst (RefersFrom R t a) e y, (i, omega arith, x))
-      go (no e) = inl (i, k, g, omega arith, x, y)
+  double-or a (i, k, g, h, x, y) =
+      ⊎-elim (λ e. inr (subst (RefersFrom R t a) e y, (i, omega arith, x))) (λ l. inl (i, k, g, l, x, y))
+      (eq-or-lt-of-le (omega arith))
 
   double-wider : (a : ℕ) → Double R t j a → Double R t (j + 1) a
   double-wider a (i, k, g, h, x, y) = (i, k, g, omega arith, x, y)
-
-  any-wider : (a : ℕ) → Any (RefersFrom R t a) j → Any (RefersFrom R t a) (j + 1)
-  any-wider a (i, h, x) = (i, omega arith, x)
 
   -- the flag of a node from which row j is not in force still tells
   flag-stays : (a : ℕ) {b : Bool} → (RefersFrom R t a j → ⊥) → Tells b (Any (RefersFrom R t a) j)
       → Tells b (Any (RefersFrom R t a) (j + 1))
   flag-stays a f tells = (
-    λ e. any-wider a (tells .0 e),
+    λ e. let (i, h, x) = tells .0 e in (i, omega arith, x),
     λ s. tells .1 (⊎-elim (λ x. absurd (f x)) (λ r. r) (any-suc _ j .1 (rw add-one at s))),
   )
 
@@ -85,8 +76,7 @@ module _ (R : ℕ → RefRow) (t : ℕ) {j : ℕ} where
   -- it is, and a flag says whether one before it is from the same node
   module _ (on : During (R j .from) (R j .to) t) where
     double-more : {n x : ℕ} (b : Bool) → Tells b (Any (RefersFrom R t (R j .attribute)) j) → R j .attribute < n
-        → Least (Double R t j) n x
-        → Least (Double R t (j + 1)) n (cond (b && ltb (R j .attribute) x) (R j .attribute) x)
+        → Least (Double R t j) n x → Least (Double R t (j + 1)) n (nearer x b (R j .attribute))
     double-more b tells h l = least-same (λ a g. there a) (λ a g. back a) (least-nearer b h l)
       where
         there : (a : ℕ) → Double R t j a ⊎ ((a ≡ R j .attribute) × (b ≡ true)) → Double R t (j + 1) a
@@ -150,9 +140,9 @@ module _ {rs : List ℕ} {k n t : ℕ} {up : List ℕ} where
     -- it is, from a to b: these may be absent, and one before it may be from a
     pub found-more : during (refAt rs j .from) (refAt rs j .to) t ≡ true
         → {a b : ℕ} → a ≡ refAt rs j .attribute → b ≡ refAt rs j .target
-        → {u : Bool} {l : ℕ} → u ≡ isAbsent up a → l ≡ cond (u && ltb j (r .late)) j (r .late)
-        → {v : Bool} {d : ℕ} → v ≡ isAbsent up b → d ≡ cond (v && ltb j (r .dangling)) j (r .dangling)
-        → {c : ℕ} → c ≡ cond (getD flags a false && ltb a (r .double)) a (r .double)
+        → {u : Bool} {l : ℕ} → u ≡ isAbsent up a → l ≡ nearer (r .late) u j
+        → {v : Bool} {d : ℕ} → v ≡ isAbsent up b → d ≡ nearer (r .dangling) v j
+        → {c : ℕ} → c ≡ nearer (r .double) (getD flags a false) a
         → Found rs k n t up (j + 1) (record { late = l; dangling = d; double = c }) (set flags a true)
     found-more e ea eb eu el ev ed ec =
         let on = during-tells _ _ t .0 e in

@@ -4,7 +4,8 @@
 --   Flags     the flag of each node tells whether one of the first j rows is in force from it
 --   Found     of the first j of k rows: the smallest place of each kind, with these flags
 --   Finding   row j can be taken after the rows before it
---   Leasts    of all k rows: the smallest place of each kind
+--   Leasts    of all k rows: the smallest place of each kind. That these are the places of LATE, DANGLING and DOUBLE is
+--             late-found, dangling-found, double-found in proofs/JudgeLaws.antt
 -- Assumes nothing.
 use mathlib.Core.Path.{_≡_}
 use mathlib.Core.Bool.{Bool, false}

@@ -1,5 +1,5 @@
 // The fault at an instant that an answer names: the smallest code, and there the smallest place. A leaf for each kind,
-// one for all kinds that are of references, asked in the order of kinds.
+// and one for the three kinds that references have, asked in the order of kinds.
 ghost use mathlib.Core.Path.{_≡_};
 ghost use Prim.Native.Nat.{_<_, _≤_};
 ghost use lib.ListN.{length};

@@ -1,9 +1,8 @@
 // One pass over the references at an instant: LATE, DANGLING and DOUBLE.
 ghost use mathlib.Core.Path.{_≡_};
-ghost use mathlib.Core.Bool.{cond, _&&_};
 ghost use Prim.Native.Nat.{_+_, _≤_};
-ghost use lib.Dec.{ltb};
 ghost use lib.ListN.{length};
+ghost use Rattle.ground.specs.Searches.{nearer};
 ghost use Rattle.tables.specs.Rules.{mostNodes};
 ghost use Rattle.faults.specs.Leaves.{Referring};
 ghost use Rattle.faults.specs.Refs.{Found, Finding, Leasts};
@@ -22,7 +21,7 @@ pub struct RefFaults {
 
 // best, or x where the test passes and x is smaller.
 fn nearer(best: usize, passes: bool, x: usize) -> usize
-    ensures { λ r. ⌜ r ≡ cond (passes && ltb x best) x best ⌝ }
+    ensures { λ r. ⌜ r ≡ nearer best passes x ⌝ }
 {
     if passes & (x < best) { x } else { best }
 }

@@ -10,7 +10,7 @@ use lib.Dec.{ltb}
 use borrow.Author.Tests.{ltb-true, ltb-false}
 use Rattle.ground.specs.Tests.{Tells}
 use Rattle.ground.specs.Least.{Any, Before, Least}
-use Rattle.ground.specs.Searches.{Passes, any, least}
+use Rattle.ground.specs.Searches.{Passes, any, least, nearer}
 use Rattle.ground.proofs.TestLaws.{tells-or}
 
 pub not-lt→le : {m n : ℕ} → (m < n → ⊥) → n ≤ m
@@ -97,28 +97,25 @@ least-same f g l =
       here = λ h. f _ h (l .here h);
     }
 
--- the smallest number with P, or x where a test passes: the smaller of the two
-pub least-nearer : {P : ℕ → Type 0} {n best x : ℕ} (b : Bool) → x < n → Least P n best
-    → Least (λ i. P i ⊎ ((i ≡ x) × (b ≡ true))) n (cond (b && ltb x best) x best)
-least-nearer {P} {n} {best} {x} b h l = go b (ltb x best) refl
+-- the smallest number stays the smallest where no smaller one gets the property
+pub least-stays : {P Q : ℕ → Type 0} {n k : ℕ} → ((i : ℕ) → P i → Q i) → ((i : ℕ) → i < k → Q i → P i)
+    → Least P n k → Least Q n k
+least-stays f g l =
+    record { within = l .within; before = λ i h q. l .before i h (g i h q); here = λ h. f _ (l .here h) }
+
+-- one number x more, where a test passes
+pub least-nearer : {P : ℕ → Type 0} {n k x : ℕ} (b : Bool) → x < n → Least P n k
+    → Least (λ i. P i ⊎ ((i ≡ x) × (b ≡ true))) n (nearer k b x)
+least-nearer {P} {n} {k} {x} b h l = go b (ltb x k) refl
   where
-    go : (b q : Bool) → ltb x best ≡ q → Least (λ i. P i ⊎ ((i ≡ x) × (b ≡ true))) n (cond (b && q) x best)
+    go : (b q : Bool) → ltb x k ≡ q → Least (λ i. P i ⊎ ((i ≡ x) × (b ≡ true))) n (cond (b && q) x k)
     go true true e =
-        let near = ltb-true x best e in
+        let near = ltb-true x k e in
         least-found _ h (λ i g. ⊎-elim (l .before i (omega arith)) (λ w. omega (arith, w .0))) (inr (refl, refl))
     go true false e =
-        let far = ltb-false x best e in
-        record {
-          within = l .within;
-          before = λ i g. ⊎-elim (l .before i g) (λ w. omega (arith, w .0));
-          here = λ g. inl (l .here g);
-        }
-    go false q e =
-        record {
-          within = l .within;
-          before = λ i g. ⊎-elim (l .before i g) (λ w. false≢true (w .1));
-          here = λ g. inl (l .here g);
-        }
+        let far = ltb-false x k e in
+        least-stays (λ i. inl) (λ i g. ⊎-elim (λ p. p) (λ w. absurd (omega (arith, w .0)))) l
+    go false q e = least-stays (λ i. inl) (λ i g. ⊎-elim (λ p. p) (λ w. absurd (false≢true (w .1)))) l
 
 -- the greatest number below n with a property that can be decided, or that there is none
 abbrev pub Greatest : (ℕ → Type 0) → ℕ → ℕ → Type 0

@@ -2,10 +2,12 @@
 --   Passes p     the property that the test p tells
 --   any p n      the test passes at some number below n
 --   least p n    the smallest number below n at which the test passes, or n where there is none
+--   nearer k b x   the smaller of k and, where the test b passes, x
 -- Assumes nothing.
 use mathlib.Core.Path.{_≡_}
-use mathlib.Core.Bool.{Bool, true, false, _||_, cond}
+use mathlib.Core.Bool.{Bool, true, false, _&&_, _||_, cond}
 use Prim.Native.Nat.{ℕ, zero, suc}
+use lib.Dec.{ltb}
 
 abbrev pub Passes : (ℕ → Bool) → ℕ → Type 0
 Passes p i = p i ≡ true
@@ -19,3 +21,6 @@ any p (suc n) = let rest = any p n in p n || rest
 unfoldable pub least : (ℕ → Bool) → ℕ → ℕ
 least p zero = zero
 least p (suc n) = let k = least p n in cond (p k) k (suc k)
+
+abbrev pub nearer : ℕ → Bool → ℕ → ℕ
+nearer k b x = cond (b && ltb x k) x k

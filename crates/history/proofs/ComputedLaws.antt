@@ -158,15 +158,15 @@ module _ (R : ℕ → RefRow) (t a : ℕ) where
   refers-from-tells k = tells-and _ _ (tells-eq (R k .attribute) a) (during-tells _ _ t)
 
   -- a reference in force, and one before it
-  double-again : (m : ℕ) → Any (λ k. RefersFrom R t a k × Any (RefersFrom R t a) k) m ↔ Double R t m a
-  double-again m = (λ (k, h, (y, (j, g, x))). (j, k, g, h, x, y), λ (j, k, g, h, x, y). (k, h, (y, (j, g, x))))
+  double-any : (m : ℕ) → Any (λ k. RefersFrom R t a k × Any (RefersFrom R t a) k) m ↔ Double R t m a
+  double-any m = (λ (k, h, (y, (j, g, x))). (j, k, g, h, x, y), λ (j, k, g, h, x, y). (k, h, (y, (j, g, x))))
 
   pub double-tells : (m : ℕ) → Tells (doubles R t m a) (Double R t m a)
   double-tells m =
       Iff·trans
       (any-tells _ (λ k. RefersFrom R t a k × Any (RefersFrom R t a) k)
       (λ k. tells-and _ _ (refers-from-tells k) (any-tells _ (RefersFrom R t a) refers-from-tells k)) m)
-      (double-again m)
+      (double-any m)
 
 module _ (H : History) (t : ℕ) where
   refers-tells : (k : ℕ) → Tells (isReferring H t k) (Refers H t k)

@@ -2,21 +2,25 @@
 use mathlib.Core.Path.{_≡_, refl, sym, ap, ap₂, subst}
 use mathlib.Core.Logic.{_↔_}
 use Prim.Native.Nat.{ℕ, _≤_, _<_}
+use native.Mathlib.Decide.{ℕ-discrete}
 use native.Mathlib.Nat.{le-antisymm}
 use Rattle.ground.proofs.LeastLaws.{not-lt→le}
 use Rattle.answers.specs.declared.Fault.{Fault}
 use Rattle.answers.specs.declared.Answer.{Answer}
 use Rattle.answers.specs.declared.Answer.the-variants.{Faulty}
-use Rattle.answers.specs.Numbers.{passed}
+use Rattle.answers.specs.declared.Kind.the-variants as kind
+use Rattle.answers.specs.Numbers.{codeOf, passed}
+use Rattle.answers.specs.Refusals.{fault}
+use Rattle.answers.proofs.KindLaws.{code-unique}
 use Rattle.tables.specs.Tables.{Now}
-use Rattle.history.specs.Faults.{History, Holds, First, Faultless, Earliest, Verdict, accepted, refused}
+use Rattle.history.specs.Faults.{History, HoldsAt, Holds, First, Faultless, Earliest, Verdict, accepted, refused}
 use Rattle.history.specs.Ruled.{Ruled}
 use Rattle.history.specs.Sound.{OneReference, AllSound, FirstUnsound}
 use Rattle.history.specs.Document.{Document}
 use Rattle.history.specs.Places.{Names, none, first}
 use Rattle.history.proofs.OrderLaws.{first-unique}
-use Rattle.history.proofs.SoundLaws.{sound}
-use Rattle.history.proofs.DocumentLaws.{document}
+use Rattle.history.proofs.SoundLaws.{undoubled-one, one-undoubled, sound}
+use Rattle.history.proofs.DocumentLaws.{NoneButDouble, document}
 
 -- two verdicts for one history coincide, and so do two answers that name the first fault at an instant
 module _ (H : History) where
@@ -46,10 +50,24 @@ module _ (H : History) (r : Ruled H) where
   faultless-of : Verdict H passed → (t : ℕ) → t ≤ Now → Faultless H t
   faultless-of (accepted n) = n
 
+  -- no fault but DOUBLE, and no DOUBLE
+  but-double-faultless : (t : ℕ) → NoneButDouble H t → OneReference H t → Faultless H t
+  but-double-faultless t never one f x = go (ℕ-discrete (codeOf (f .kind)) (codeOf kind.Double))
+    where
+      go : Dec (codeOf (f .kind) ≡ codeOf kind.Double) → ⊥
+      go (yes e) =
+          one-undoubled H t one (f .place) (subst (λ k. HoldsAt H t k (f .place)) (code-unique (f .kind) kind.Double e) x)
+      go (no other) = never f other x
+
   pub accepted-document : ((i : ℕ) → i < H .edges → H .edge i .to ≤ Now)
       → Verdict H passed ↔ (Document H × ((t : ℕ) → t ≤ Now → OneReference H t))
   accepted-document bound =
-      (λ v. document H r bound .1 (faultless-of v), λ d. accepted (document H r bound .0 d))
+      let d = document H r bound in (
+        λ v.
+            let never = faultless-of v in
+            (d .1 (λ t now f other. never t now f), λ t now. undoubled-one H t (λ a. never t now (fault kind.Double a))),
+        λ (x, one). accepted (λ t now. but-double-faultless t (d .0 x t now) (one t now)),
+      )
 
   pub accepted-sound : Verdict H passed ↔ AllSound H
   accepted-sound = (λ v t h. sound H t r .0 (faultless-of v t h), λ s. accepted (λ t h. sound H t r .1 (s t h)))

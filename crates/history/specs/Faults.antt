@@ -92,7 +92,8 @@ module _ (R : ℕ → RefRow) (t : ℕ) where
   abbrev pub RefersFrom : ℕ → ℕ → Type 0
   RefersFrom a k = (R k .attribute ≡ a) × During (R k .from) (R k .to) t
 
-  -- [02:Ask 1] 17 DOUBLE "two or more references from one attribute are in force", of the first m rows
+  -- [02:Ask 1] 17 DOUBLE "two or more references from one attribute are in force at t, place the attribute's node
+  -- number": m is how many rows there are
   abbrev pub Double : ℕ → ℕ → Type 0
   Double m a = (j : ℕ) × (k : ℕ) × (j < k) × (k < m) × RefersFrom a j × RefersFrom a k
 

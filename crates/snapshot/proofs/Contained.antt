@@ -22,7 +22,7 @@ use Rattle.snapshot.specs.Snapshot.{ShownRow, shownNumbers, ShownRows, R
 use Rattle.snapshot.specs.Exact.{Exact}
 use Rattle.snapshot.specs.Says.{rowsOf, written}
 use Rattle.snapshot.specs.Counts.{isOther}
-use Rattle.snapshot.proofs.ReadyLaws.{ready-ruled, ready-tree, ready-one, unready-refuses}
+use Rattle.snapshot.proofs.ReadyLaws.{ready-ruled, ready-tree, ready-single, unready-refuses}
 use Rattle.snapshot.proofs.ExactLaws.{rows-exact, exact-number}
 use Rattle.snapshot.proofs.SnapshotLaws.{shown-is, snapshot-is}
 
@@ -33,7 +33,7 @@ module _ (L : Tables) (t : ℕ) where
   -- [demand 2] "A snapshot shows exactly what was contained at its instant."
   pub shown-exact : Ready L t → {xs : List ShownRow} → ShownRows H t xs → Exact H t xs
   shown-exact r x =
-      rw (shown-is L t r x) (rows-exact H t (ready-ruled L t r) (ready-tree L t r) (r .begun) (ready-one L t r))
+      rw (shown-is L t r x) (rows-exact H t (ready-ruled L t r) (ready-tree L t r) (r .begun) (ready-single L t r))
 
   -- the rows that are needed, and those that are shown, are the root's and one for each other node that is present
   pub rows-needed : Ready L t → {xs : List ShownRow} → ShownRows H t xs

@@ -32,11 +32,11 @@ use Rattle.snapshot.proofs.ChildLaws.{tells-same, child-tells, child-be
 use Rattle.snapshot.proofs.ShownLaws.{referent-shown}
 
 -- where at most one reference is in force from each node, the smallest is the only one
-module _ (H : History) (t : ℕ) (sole : OneReference H t) where
+module _ (H : History) (t : ℕ) (single : OneReference H t) where
   referent-one : {n r : ℕ} → Referent H t n r → OneReferent H t n r
   referent-one (target {k = k} (l, h)) =
       let x = l .here h in
-      one h x (λ j g y. sole j k (g, y .1) (h, x .1) (y .0 ∙ sym (x .0)))
+      one h x (λ j g y. single j k (g, y .1) (h, x .1) (y .0 ∙ sym (x .0)))
   referent-one (no-target f) = no-reference f
 
   one-shown : (n : ℕ) → OneReferent H t n (referentAt (H .refs) (H .ref) t n)
@@ -113,14 +113,14 @@ module _ (H : History) (t : ℕ) (ruled : Ruled H) (tree : Tree (H .edges) (H .e
         (λ i p. away (inr (λ e. root i (into-node _ _ t n 0 i e p), (i, p))))
 
     pub rows-exact : OneReference H t → Exact H t (shownRows H t)
-    rows-exact sole =
+    rows-exact single =
         record {
           once = once;
           only = only;
           right =
               walk-all ρ kids (RowRight H t) (λ n. children-all H t n _ (λ c x.
-              record { under = inr x; refers = one-shown H t sole c }))
-              (H .nodes) noNode 0 (record { under = inl (refl, refl); refers = one-shown H t sole 0 });
+              record { under = inr x; refers = one-shown H t single c }))
+              (H .nodes) noNode 0 (record { under = inl (refl, refl); refers = one-shown H t single 0 });
         }
 
 -- rows that are exact are the root's and one for each other node that is present

@@ -51,8 +51,8 @@ module _ (H : History) (t : ℕ) where
         no-cycle = λ n x. never (fault kind.Cycle n) (x, omega arith);
       }
 
-  none-one : ((f : Fault) → GapAside H t f → ⊥) → OneReference H t
-  none-one never = undoubled-one H t (λ a x. never (fault kind.Double a) (x, omega arith))
+  none-single : ((f : Fault) → GapAside H t f → ⊥) → OneReference H t
+  none-single never = undoubled-one H t (λ a x. never (fault kind.Double a) (x, omega arith))
 
   early-says : t < H .start → instantSays H t ≡ Early t
   unfolding instantSays
@@ -83,8 +83,8 @@ module _ (L : Tables) (t : ℕ) where
   pub ready-tree : Known → Tree (H .edges) (H .edge) t
   ready-tree r = none-tree H t (r .none)
 
-  pub ready-one : Known → OneReference H t
-  ready-one r = none-one H t (r .none)
+  pub ready-single : Known → OneReference H t
+  ready-single r = none-single H t (r .none)
 
   -- [02:Ask 8] "no chain can pass 1,023 rows"
   pub never-deep : Obeys L → ((f : Fault) → GapAside H t f → ⊥) → TooDeep H t → ⊥
@@ -169,7 +169,7 @@ module _ (L : Tables) (t : ℕ) where
     known = readiness-ready (x .answer) f
 
     pub ready-counted : 1 + count (λ c. ltb (getD up c 0) (H .nodes)) (H .nodes) ≡ length (shownRows H t)
-    ready-counted = counted H t (ready-tree known) (x .seen f) (known .begun) (ready-one known)
+    ready-counted = counted H t (ready-tree known) (x .seen f) (known .begun) (ready-single known)
 
     pub ready-rows : rowsBy up (H .nodes) (L .refs .numbers) (L .refs .count) t ≡ shownRows H t
     ready-rows = walked H t (ready-tree known) (x .seen f)

@@ -62,9 +62,9 @@ module _ (H : History) (t : ℕ) (tree : Tree (H .edges) (H .edge) t) {parents :
 
   pub counted : H .start ≤ t → OneReference H t
       → 1 + count (λ c. ltb (getD parents c 0) (H .nodes)) (H .nodes) ≡ length (shownRows H t)
-  counted begun sole =
+  counted begun single =
       ap (λ k. 1 + k) (sum-ext _ _ (H .nodes) (λ c h. ap bit (other-same c h)))
-      ∙ sym (exact-number H t (seen .ruled) begun (rows-exact H t (seen .ruled) tree begun sole))
+      ∙ sym (exact-number H t (seen .ruled) begun (rows-exact H t (seen .ruled) tree begun single))
 
   -- the walk by the slots is that of the snapshot
   pub walked : subtree (referentAt (H .refs) (H .ref) t) (kidsBy parents (H .nodes)) (H .nodes) noNode 0 ≡ shownRows H t

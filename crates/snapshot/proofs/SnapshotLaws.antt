@@ -119,7 +119,7 @@ module _ (L : Tables) (t : ℕ) where
               some = s .ruled .root;
               few = s .ruled .few-nodes;
               listed = s .long;
-              refers = lent-referring (obeys-lent L (known .obeys)) (H .nodes) (omega arith);
+              refers = lent-referring (obeys-lent L (known .obeys));
               room = omega (arith, needed, ap length (ready-rows L t x f));
             }
 

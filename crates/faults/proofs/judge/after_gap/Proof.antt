@@ -28,9 +28,9 @@ past₂ : (c : tie.Else2) {a : Answer} → Says (start₂ c) (drop 2 afterGap) a
 past₂ c r =
     past₁ (c .before .before) (rest-on (cycle-found (c .before .first-back .ensures)) (λ s e m. c .if2 .left) r)
 
--- past the kinds that the pass over the references finds
-abbrev past : tie.After-take-refs → tie.Else2
-past c = c .before
+-- past the kinds that the pass over the references finds; `asked` is where it was begun
+abbrev asked : tie.After-take-refs → tie.Else2
+asked c = c .before
 
 abbrev found₃ : tie.Else3 → tie.After-take-refs
 found₃ c = c .before .before
@@ -38,12 +38,12 @@ found₃ c = c .before .before
 abbrev found₄ : tie.Else4 → tie.After-take-refs
 found₄ c = found₃ (c .before .before)
 
-past₃ : (c : tie.Else3) {a : Answer} → let s = start₂ (past (found₃ c)) in
+past₃ : (c : tie.Else3) {a : Answer} → let s = start₂ (asked (found₃ c)) in
     Says s (drop 3 afterGap) a → Says s afterGap a
 past₃ c r =
-    past₂ (past (found₃ c)) (rest-on (late-found (found₃ c .take-refs .ensures .late)) (λ s e m. c .if3 .left) r)
+    past₂ (asked (found₃ c)) (rest-on (late-found (found₃ c .take-refs .ensures .late)) (λ s e m. c .if3 .left) r)
 
-past₄ : (c : tie.Else4) {a : Answer} → let s = start₂ (past (found₄ c)) in
+past₄ : (c : tie.Else4) {a : Answer} → let s = start₂ (asked (found₄ c)) in
     Says s (drop 4 afterGap) a → Says s afterGap a
 past₄ c r =
     past₃ (c .before .before)
@@ -52,7 +52,7 @@ past₄ c r =
 abbrev found₅ : tie.Else5 → tie.After-take-refs
 found₅ c = found₄ (c .before .before)
 
-past₅ : (c : tie.Else5) {a : Answer} → let s = start₂ (past (found₅ c)) in
+past₅ : (c : tie.Else5) {a : Answer} → let s = start₂ (asked (found₅ c)) in
     Says s (drop 5 afterGap) a → Says s afterGap a
 past₅ c r =
     past₄ (c .before .before)
@@ -90,7 +90,7 @@ faulty-requires-3 c κs = search needs
 returns-3 : tie.Need-returns-3
 returns-3 c =
     let found = c .before .before .before in
-    past₂ (past found)
+    past₂ (asked found)
     (rest-found (late-found (found .take-refs .ensures .late)) (λ s e m. c .before .if3 .taken) (c .faulty3 .ensures))
 
 faulty-requires-4 : tie.Need-faulty-requires-4
@@ -98,9 +98,9 @@ faulty-requires-4 c κs = search needs
 
 returns-4 : tie.Need-returns-4
 returns-4 c =
-    let later = c .before .before .before in
-    past₃ later
-    (rest-found (dangling-found (found₃ later .take-refs .ensures .dangling)) (λ s e m. c .before .if4 .taken)
+    let no-late = c .before .before .before in
+    past₃ no-late
+    (rest-found (dangling-found (found₃ no-late .take-refs .ensures .dangling)) (λ s e m. c .before .if4 .taken)
     (c .faulty4 .ensures))
 
 faulty-requires-5 : tie.Need-faulty-requires-5
@@ -108,9 +108,9 @@ faulty-requires-5 c κs = search needs
 
 returns-5 : tie.Need-returns-5
 returns-5 c =
-    let later = c .before .before .before in
-    past₄ later
-    (rest-found (double-found (found₄ later .take-refs .ensures .double)) (λ s e m. c .before .if5 .taken)
+    let no-dangling = c .before .before .before in
+    past₄ no-dangling
+    (rest-found (double-found (found₄ no-dangling .take-refs .ensures .double)) (λ s e m. c .before .if5 .taken)
     (c .faulty5 .ensures))
 
 returns-6 : tie.Need-returns-6

@@ -4,7 +4,6 @@ use Prim.Native.Nat.{ℕ}
 use lib.ListN.{drop}
 use denote.Ref.{now}
 use borrow.Author.Needs.{needs}
-use native.Mathlib.Omega.{arith}
 use Rattle.ground.specs.Searches.{least}
 use Rattle.answers.specs.declared.Answer.{Answer}
 use Rattle.answers.specs.declared.Kind.the-variants.{Overlap, Gap}
@@ -103,7 +102,7 @@ after-gap-requires : tie.Need-after-gap-requires
 after-gap-requires c κs =
     let r = rows (past (c .before .before) .before) in
     let a = start r in
-    (seen r .long, a .pre .0 .ruled .few-nodes, a .pre .0 .ruled .few-refs, lent-referring (a .pre .0) _ (omega arith))
+    (seen r .long, a .pre .0 .ruled .few-nodes, a .pre .0 .ruled .few-refs, lent-referring (a .pre .0))
 
 returns-3 : tie.Need-returns-3
 returns-3 c =

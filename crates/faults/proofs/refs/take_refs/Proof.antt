@@ -42,7 +42,9 @@ loop-again : tie.Need-loop-again Inv-loop μ-loop
 loop-again c = search needs
 
 returns : tie.Need-returns Inv-loop μ-loop
-returns c = found-all (omega arith) (c .before .loop .inv .2)
+returns c =
+    let (within, long, found) = c .before .loop .inv in
+    found-all (omega arith) found
 
 pub take-refs-spec : {M : Type 1} → statement M
 take-refs-spec =
