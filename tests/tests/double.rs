@@ -70,11 +70,15 @@ fn one_reference_each_of_two_attributes() {
     }
 }
 
+/// The ward with two references, their rows in either order.
+fn either_order(one: [u32; 4], other: [u32; 4]) -> [History; 2] {
+    [ward(&[one, other]), ward(&[other, one])]
+}
+
 /// Both ends of a label belong to it.
 #[test]
 fn two_references_that_share_one_instant() {
-    for refs in [[[3, 1, 10, 20], [3, 2, 20, 30]], [[3, 2, 20, 30], [3, 1, 10, 20]]] {
-        let history = ward(&refs);
+    for history in either_order([3, 1, 10, 20], [3, 2, 20, 30]) {
         assert_eq!(check(&history), (DOUBLE, 20, 3));
         assert_eq!(shown(&history, 19), Ok(1));
         assert_eq!(shown(&history, 20), Err((DOUBLE, 20, 3)));
@@ -84,8 +88,7 @@ fn two_references_that_share_one_instant() {
 
 #[test]
 fn one_reference_ends_just_before_the_other_starts() {
-    for refs in [[[3, 1, 10, 19], [3, 2, 20, 30]], [[3, 2, 20, 30], [3, 1, 10, 19]]] {
-        let history = ward(&refs);
+    for history in either_order([3, 1, 10, 19], [3, 2, 20, 30]) {
         assert_eq!(check(&history), (DONE, 0, 0));
         assert_eq!(shown(&history, 19), Ok(1));
         assert_eq!(shown(&history, 20), Ok(2));

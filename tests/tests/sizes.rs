@@ -142,8 +142,8 @@ fn full_size_histories_are_repaired() {
     tally.met_exactly(&[DONE]);
 }
 
-/// One number of a full-size history one larger, in places spread over all rows; in the chain modulo 1,030, which throws
-/// its later stays back to the beginning.
+/// One number of a full-size history one larger, in places spread over all rows; in the chain modulo 1,030, which
+/// throws its later stays back to the beginning.
 #[test]
 fn full_size_histories_hurt_in_one_place() {
     let tally = &mut Tally::of("check");

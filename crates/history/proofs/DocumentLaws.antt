@@ -93,7 +93,8 @@ module _ (H : History) where
                 (λ t now n. none t now (fault kind.Gap n) (omega arith));
             tree = faultless-tree;
             attribute = λ k h t now f.
-                here-lifespan _ t now (not-away H t _ (λ away. none t now (fault kind.Late k) (omega arith) ((h, f), away)));
+                here-lifespan _ t now
+                (not-away H t _ (λ away. none t now (fault kind.Late k) (omega arith) ((h, f), away)));
             target = λ k h t now f.
                 here-lifespan _ t now
                 (not-away H t _ (λ away. none t now (fault kind.Dangling k) (omega arith) ((h, f), away)));

@@ -56,7 +56,8 @@ module _ (H : History) (r : Ruled H) where
     where
       go : Dec (codeOf (f .kind) ≡ codeOf kind.Double) → ⊥
       go (yes e) =
-          one-undoubled H t one (f .place) (subst (λ k. HoldsAt H t k (f .place)) (code-unique (f .kind) kind.Double e) x)
+          let is-double = code-unique (f .kind) kind.Double e in
+          one-undoubled H t one (f .place) (subst (λ k. HoldsAt H t k (f .place)) is-double x)
       go (no other) = never f other x
 
   pub accepted-document : ((i : ℕ) → i < H .edges → H .edge i .to ≤ Now)
@@ -65,7 +66,9 @@ module _ (H : History) (r : Ruled H) where
       let d = document H r bound in (
         λ v.
             let never = faultless-of v in
-            (d .1 (λ t now f other. never t now f), λ t now. undoubled-one H t (λ a. never t now (fault kind.Double a))),
+            let single : (t : ℕ) → t ≤ Now → OneReference H t =
+            λ t now. undoubled-one H t (λ a. never t now (fault kind.Double a)) in
+            (d .1 (λ t now f other. never t now f), single),
         λ (x, one). accepted (λ t now. but-double-faultless t (d .0 x t now) (one t now)),
       )
 

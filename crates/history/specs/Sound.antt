@@ -1,4 +1,4 @@
--- Demand 3's sentence, from chains, presence and references in force, and not from the table of faults. Assumes nothing.
+-- Demand 3's sentence, from chains, presence and references in force, not from the table of faults. Assumes nothing.
 use mathlib.Core.Path.{_≡_}
 use mathlib.Core.Logic.{_⊎_}
 use mathlib.Core.List.{List}
