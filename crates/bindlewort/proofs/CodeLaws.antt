@@ -1,6 +1,6 @@
 -- The codes that each call can give; and that read text gives one answer. Assumes nothing.
 use mathlib.Core.Path.{_≡_, refl, sym, ap, _∙_, subst}
-use mathlib.Core.Bool.{true, _||_}
+use mathlib.Core.Bool.{true, false, _||_}
 use mathlib.Core.List.{List, [], _++_}
 use Prim.Native.Nat.{ℕ}
 use native.Mathlib.Omega.{arith}
@@ -11,6 +11,7 @@ use Rattle.ground.specs.Among.{isAmong}
 use Rattle.answers.specs.declared.Fault.{Fault}
 use Rattle.answers.specs.declared.Kind.the-variants.{Gap}
 use Rattle.answers.specs.declared.Answer.{Answer}
+use Rattle.answers.specs.declared.Answer.the-variants.{Deep}
 use Rattle.answers.specs.Numbers.{codeOf, numbers}
 use Rattle.answers.proofs.KindLaws.{every-kind}
 use Rattle.tables.specs.Tables.{Table, Tables, table}
@@ -102,3 +103,9 @@ pub read-answer-unique : {s n e f : List ℕ} {a b : Answer} → Allows (ReadAns
     → Allows (ReadAnswer s n e f) b → a ≡ b
 read-answer-unique ((x, _, _, _), (p, g)) ((y, _, _, _), (q, h)) =
     sym g ∙ ap (λ (z : TextReading). z .answer) (read-unique p q .0) ∙ h
+
+-- [02:Ask 8] "Prove that no input gets it": the code of DEEP is on no call's list, and a call gives no code but one of
+-- its list (Demands: ..-exactly)
+pub deep-unlisted : isAmong (checkCodes ++ snapshotCodes ++ repairCodes ++ writeCodes ++ readCodes)
+    (numbers (Deep 0) .code) ≡ false
+deep-unlisted = refl
