@@ -67,19 +67,16 @@ module _ (m : ℕ) (E : ℕ → EdgeRow) (t : ℕ) where
     node-below a n (i ∷ is) (suc k) h p = node-below a (E i .parent) is k (b i (p .0 .row) .0) (p .1)
 
     -- a chain of N rows or more goes round
-    pub long-cycle : (a n : ℕ) (is : List ℕ) → n < N → N ≤ length is → Chain m E t a n is → (c : ℕ) × Cycle m E t c
+    long-cycle : (a n : ℕ) (is : List ℕ) → n < N → N ≤ length is → Chain m E t a n is → (c : ℕ) × Cycle m E t c
     long-cycle a n is h l p =
         let (i, j, ij, jN, e) = pigeonhole N (node n is) (λ k _. node-below a n is k h p) in
         let (r, rs, q) = stretch a n is i j ij (omega arith) p in
         (node n is j, (r, rs, to-node (node n is j) (node n is i) (node n is j) (r ∷ rs) e q))
 
-    -- so where no chain goes round, each has fewer than N rows: with at most 1,024 nodes, at most 1,023 (code 24 is
-    -- never given after code 14)
-    pub never-deep : ((c : ℕ) → Cycle m E t c → ⊥) → (a n i : ℕ) (is : List ℕ) → Chain m E t a n (i ∷ is)
-        → length (i ∷ is) < N
-    never-deep cyc a n i is p =
-        not-le→lt (λ l. let (c, y) = long-cycle a n (i ∷ is) (omega (arith, b i (p .0 .row), p .0 .into)) l p in
-        cyc c y)
+    -- so where none goes round, each has fewer than N rows
+    pub few-rows : ((c : ℕ) → Cycle m E t c → ⊥) → (a n : ℕ) (is : List ℕ) → n < N → Chain m E t a n is
+        → length is < N
+    few-rows cyc a n is h p = not-le→lt (λ l. let (c, y) = long-cycle a n is h l p in cyc c y)
 
   -- what is left of a chain above its k-th node
   rest : (a n : ℕ) (is : List ℕ) (k : ℕ) → Chain m E t a n is → Chain m E t a (node n is k) (drop k is)

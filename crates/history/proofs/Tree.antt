@@ -12,7 +12,7 @@ use Rattle.tables.specs.Tables.{EdgeRow}
 use Rattle.history.specs.Faults.{Into, NoneInto, Chain, Overlap, Outside, Cycle}
 use Rattle.history.specs.Sound.{Touched, OneChain}
 use Rattle.history.specs.Places.{NodesBelow}
-use Rattle.history.proofs.Chains.{join, to-node, into-node, parent-touched, into-dec, long-cycle}
+use Rattle.history.proofs.Chains.{join, to-node, into-node, parent-touched, into-dec, few-rows}
 
 -- none of OVERLAP, OUTSIDE and CYCLE
 pub record Tree (m : ℕ) (E : ℕ → EdgeRow) (t : ℕ) : Type 0 where
@@ -97,8 +97,7 @@ module _ (m : ℕ) (E : ℕ → EdgeRow) (t : ℕ) where
         go : Walk N n → (is : List ℕ) × Chain m E t 0 n is
         go (inl w) = w
         go (inr w) =
-            let (c, y) = long-cycle m E t N b (w .0) n (w .1) (touched-below n h) (omega (arith, w .3)) (w .2) in
-            absurd (cyc c y)
+            absurd (omega (arith, w .3, few-rows m E t N b cyc (w .0) n (w .1) (touched-below n h) (w .2)))
 
   pub tree-reached : (N : ℕ) → NodesBelow m E N → Tree m E t → (n : ℕ) → Touched m E t n → OneChain m E t 0 n
   tree-reached N b w n h =

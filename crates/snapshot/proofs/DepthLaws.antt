@@ -15,12 +15,11 @@ use Rattle.tables.specs.Tables.{EdgeRow}
 use Rattle.history.specs.Faults.{History, Chain}
 use Rattle.history.specs.Ruled.{Ruled}
 use Rattle.history.specs.Places.{Leads}
-use Rattle.history.proofs.Chains.{never-deep}
 use Rattle.history.proofs.ComputedLaws.{leads-tells, leads-into, into-leads}
-use Rattle.history.proofs.RuledLaws.{ruled-below}
 use Rattle.history.proofs.Tree.{Tree}
 use Rattle.snapshot.specs.Snapshot.{mostDeep, TooDeep}
 use Rattle.snapshot.specs.Depth.{climbs, tooDeep}
+use Rattle.snapshot.proofs.ShownLaws.{chain-short}
 
 module _ (m : ℕ) (E : ℕ → EdgeRow) (t : ℕ) where
   -- a chain of k rows leads to n
@@ -67,10 +66,7 @@ module _ (H : History) (t : ℕ) (r : Ruled H) where
       )
 
   pub shallow : Tree (H .edges) (H .edge) t → TooDeep H t → ⊥
-  shallow tree (a, b, [], c, h) = omega arith
-  shallow tree (a, b, i ∷ is, c, h) =
-      let n = never-deep (H .edges) (H .edge) t (H .nodes) (ruled-below H r) (tree .no-cycle) a b i is c in
-      omega (arith, r .few-nodes)
+  shallow tree (a, b, is, c, h) = omega (arith, chain-short H t r tree a b is c)
 
   pub not-deep : Tree (H .edges) (H .edge) t → tooDeep H t ≡ false
   not-deep tree = tells-fails (tooDeep H t) deep-tells (shallow tree)

@@ -4,7 +4,7 @@ use mathlib.Core.Path.{_≡_, refl, sym, ap, ap₂, _∙_}
 use mathlib.Core.Logic.{_≢_, inl, inr, ⊎-elim, Iff·trans}
 use mathlib.Core.List.{List, [], _∷_}
 use Prim.Native.Nat.{ℕ, zero, suc, _+_, _≤_, _<_}
-use native.Mathlib.Decide.{ℕ-discrete, decLt}
+use native.Mathlib.Decide.{ℕ-discrete}
 use native.Mathlib.Omega.{arith}
 use lib.Dec.{eqb}
 use lib.ListN.{length}
@@ -17,7 +17,7 @@ use Rattle.tables.specs.Tables.{noNode}
 use Rattle.history.specs.Faults.{History, Into, NoneInto, Chain, Here}
 use Rattle.history.specs.Sound.{OneReference}
 use Rattle.history.specs.Ruled.{Ruled}
-use Rattle.history.proofs.Chains.{into-node, long-cycle}
+use Rattle.history.proofs.Chains.{into-node}
 use Rattle.history.proofs.ComputedLaws.{present-tells}
 use Rattle.history.proofs.RuledLaws.{ruled-below}
 use Rattle.history.proofs.SoundLaws.{here-dec}
@@ -29,7 +29,7 @@ use Rattle.snapshot.specs.Says.{referentAt, shownRows, childrenOf}
 use Rattle.snapshot.specs.Counts.{occurs, isOther}
 use Rattle.snapshot.proofs.CountLaws.{last-row, no-row, walk-all, all-map, standing-sum}
 use Rattle.snapshot.proofs.ChildLaws.{tells-same, child-tells, child-below, child-occurs, children-all}
-use Rattle.snapshot.proofs.ShownLaws.{referent-shown}
+use Rattle.snapshot.proofs.ShownLaws.{referent-shown, chain-short}
 
 -- where at most one reference is in force from each node, the smallest is the only one
 module _ (H : History) (t : ℕ) (single : OneReference H t) where
@@ -88,23 +88,12 @@ module _ (H : History) (t : ℕ) (ruled : Ruled H) (tree : Tree (H .edges) (H .e
         reached is (H .edge i .parent) l p c (omega arith),
       )
 
-  chain-short : (n i : ℕ) → Into (H .edges) (H .edge) t n i → (is : List ℕ) → Chain (H .edges) (H .edge) t 0 n is
-      → length is < H .nodes
-  chain-short n i p is c = go (decLt (length is) (H .nodes))
-    where
-      go : Dec (length is < H .nodes) → length is < H .nodes
-      go (yes h) = h
-      go (no h) =
-          let inside = child-below H t ruled (H .edge i .parent) n (i, p, refl) in
-          let (x, y) = long-cycle _ _ t (H .nodes) (ruled-below H ruled) 0 n is inside (omega arith) c in
-          absurd (tree .no-cycle x y)
-
   once : (n : ℕ) → Here H t n → standing n (shownRows H t) ≡ 1
   once n (inl (e, s)) = reached [] n (H .nodes) noNode (sym e) (ruled .root)
   once n (inr (ne, (i, p))) =
       let (is, c) =
       some-chain _ _ t (H .nodes) (ruled-below H ruled) (tree .no-outside) (tree .no-cycle) n (inl (i, p)) in
-      reached is n (H .nodes) noNode c (chain-short n i p is c)
+      reached is n (H .nodes) noNode c (chain-short H t ruled tree 0 n is c .0)
 
   module _ (begun : H .start ≤ t) where
     only : (n : ℕ) → (Here H t n → ⊥) → standing n (shownRows H t) ≡ 0

@@ -16,7 +16,7 @@ use Rattle.tables.specs.Tables.{noNode}
 use Rattle.history.specs.Faults.{History, Chain, RefersFrom}
 use Rattle.history.specs.Ruled.{Ruled}
 use Rattle.history.specs.Computed.{refersFrom}
-use Rattle.history.proofs.Chains.{long-cycle}
+use Rattle.history.proofs.Chains.{few-rows}
 use Rattle.history.proofs.ComputedLaws.{refers-from-tells}
 use Rattle.history.proofs.RuledLaws.{ruled-below}
 use Rattle.history.proofs.Tree.{Tree}
@@ -112,18 +112,25 @@ module _ (H : History) (t : ℕ) where
     all-children : Children H t n 0 (each f (childrenOf H t n))
     all-children = rw append-nil at (below-children (H .nodes) (omega arith) none-after)
 
-  -- a walk cannot go deeper than there are nodes, or a chain would go round
   module _ (ruled : Ruled H) (tree : Tree (H .edges) (H .edge) t) where
-    subtree-shown : (l a n : ℕ) (is : List ℕ) (p : ℕ) → n < H .nodes → Chain (H .edges) (H .edge) t a n is
+    -- [02:Ask 8] "A snapshot is a tree of at most 1,024 nodes, so no chain can pass 1,023 rows." So a walk that may go
+    -- as many levels down as there are nodes leaves out none
+    pub chain-short : (a n : ℕ) (is : List ℕ) → Chain (H .edges) (H .edge) t a n is
+        → (length is < H .nodes) × (length is ≤ 1023)
+    chain-short a n [] c = (ruled .root, omega arith)
+    chain-short a n (i ∷ is) (p, c) =
+        let below = child-below H t ruled (H .edge i .parent) n (i, p, refl) in
+        let few = few-rows _ _ t (H .nodes) (ruled-below H ruled) (tree .no-cycle) a n (i ∷ is) below (p, c) in
+        (few, omega (arith, ruled .few-nodes))
+
+    subtree-shown : (l a n : ℕ) (is : List ℕ) (p : ℕ) → Chain (H .edges) (H .edge) t a n is
         → H .nodes ≤ length is + l
         → Subtree H t p n (subtree (referentAt (H .refs) (H .ref) t) (childrenOf H t) l p n)
     unfolding subtree
-    subtree-shown zero a n is p h c g =
-        let (x, y) = long-cycle _ _ t (H .nodes) (ruled-below H ruled) a n is h (omega arith) c in
-        absurd (tree .no-cycle x y)
-    subtree-shown (suc l) a n is p h c g =
+    subtree-shown zero a n is p c g = absurd (omega (arith, chain-short a n is c .0))
+    subtree-shown (suc l) a n is p c g =
         row (referent-shown n) (all-children n _ (λ k (i, q, e).
-        subtree-shown l a k (i ∷ is) n (child-below H t ruled n k (i, q, e)) (q, rw e c) (omega arith)))
+        subtree-shown l a k (i ∷ is) n (q, rw e c) (omega arith)))
 
     pub rows-shown : ShownRows H t (shownRows H t)
-    rows-shown = subtree-shown (H .nodes) 0 0 [] noNode (ruled .root) refl (omega arith)
+    rows-shown = subtree-shown (H .nodes) 0 0 [] noNode refl (omega arith)
