@@ -101,7 +101,6 @@ enum bw_code {
     BW_ROOM = 21,      /* an output is too short: see bw_snapshot and bw_read_text */
     BW_TIE = 22,       /* rows into one child start together: instant that start, place the first row with one before */
     BW_EARLY = 23,     /* the asked instant is before the start: instant the asked one */
-    BW_DEEP = 24,      /* a chain of more than 1,023 rows is in force: instant the asked one. 1,024 nodes allow none */
     BW_TEXT = 31,      /* the text is not of the form: place the first byte of the first wrong line */
     BW_TEXTROOM = 32   /* the text output is too short: place the bytes needed */
 };
@@ -135,9 +134,9 @@ struct bw_answered bw_check(uint32_t start, const uint32_t *nodes, size_t nodes_
  * of out hold k rows of node, parent, referent: the root first, each node followed by the whole subtree of each of its
  * children, these by rising node number. The referent is the target of the reference in force from the node, of which
  * there is at most one. BW_NO_NODE stands for the root's parent and for no referent. The rest of out is left as it was.
- * Refuses with BW_SIZE to BW_REFERENCE, BW_EARLY, the fault at t of smallest code and place with BW_GAP set aside,
- * BW_DEEP, and BW_ROOM (instant t, place the rows needed), in this order; then all of out is left as it was. Room for
- * BW_MOST_NODES rows is always enough.
+ * Refuses with BW_SIZE to BW_REFERENCE, BW_EARLY, the fault at t of smallest code and place with BW_GAP set aside, and
+ * BW_ROOM (instant t, place the rows needed), in this order; then all of out is left as it was. Room for BW_MOST_NODES
+ * rows is always enough.
  */
 struct bw_answered bw_snapshot(uint32_t start, const uint32_t *nodes, size_t nodes_len, const uint32_t *edges,
                                size_t edges_len, const uint32_t *refs, size_t refs_len, uint32_t t, uint32_t *out,

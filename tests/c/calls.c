@@ -32,8 +32,8 @@ static int is(struct bw_answered a, uint32_t code, uint32_t instant, uint32_t pl
 static void numbers(void) {
     static const uint32_t codes[] = {BW_DONE, BW_SIZE, BW_START, BW_NODE, BW_EDGE, BW_REFERENCE,
                                      BW_OVERLAP, BW_GAP, BW_OUTSIDE, BW_CYCLE, BW_LATE, BW_DANGLING,
-                                     BW_DOUBLE, BW_ROOM, BW_TIE, BW_EARLY, BW_DEEP, BW_TEXT, BW_TEXTROOM};
-    static const uint32_t stated[] = {0, 1, 2, 3, 4, 5, 11, 12, 13, 14, 15, 16, 17, 21, 22, 23, 24, 31, 32};
+                                     BW_DOUBLE, BW_ROOM, BW_TIE, BW_EARLY, BW_TEXT, BW_TEXTROOM};
+    static const uint32_t stated[] = {0, 1, 2, 3, 4, 5, 11, 12, 13, 14, 15, 16, 17, 21, 22, 23, 31, 32};
     expect("the codes", sizeof codes == sizeof stated && memcmp(codes, stated, sizeof codes) == 0);
     expect("the widths", BW_NODE_WIDTH == 3 && BW_EDGE_WIDTH == 4 && BW_REF_WIDTH == 4 && BW_SNAPSHOT_WIDTH == 3);
     expect("the sizes", BW_LEAST_NODES == 1 && BW_MOST_NODES == 1024 && BW_MOST_EDGES == 2048 && BW_MOST_REFS == 1024);

@@ -73,8 +73,6 @@ pub mod code {
     pub const TIE: u32 = 22;
     /// The asked instant is before the start.
     pub const EARLY: u32 = 23;
-    /// A chain of more than 1,023 rows is in force: 1,024 nodes allow none.
-    pub const DEEP: u32 = 24;
     /// The text is not of the form.
     pub const TEXT: u32 = 31;
     /// The text output is too short.

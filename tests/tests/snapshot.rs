@@ -60,8 +60,7 @@ fn the_reference_in_force_is_shown() {
     );
 }
 
-/// All codes that snapshot can give, and not GAP or DEEP: the one is set aside, and 1,024 nodes allow no chain of 1,024
-/// rows.
+/// All codes that snapshot can give, and not GAP, which is set aside.
 #[test]
 fn snapshot_agrees_with_the_model() {
     let random = &mut Random::seeded(21);
@@ -112,18 +111,24 @@ fn two_references_at_the_last_instants_of_a_full_size_history() {
     assert_eq!(shown(&history, NOW).0, (DOUBLE, NOW, 1_022));
 }
 
-/// The deepest chain that there can be: 1,023 rows. DEEP stays unused.
+/// The longest chain that there can be, 1,023 rows, is shown to its last node. One that goes on past that goes round.
 #[test]
-fn the_deepest_chain() {
+fn the_longest_chain() {
     let tally = &mut Tally::of("snapshot");
     let rows: Vec<[u32; 4]> = (1..1_024).map(|n| [n - 1, n, 0, NOW]).collect();
     let history = History::of_elements(1_023).with_edges(&rows);
-    let (said, _) = snapshot(tally, &history, 5, ENOUGH);
-    assert_eq!((said.code, said.place), (DONE, 1_024));
+    for (room, code) in [(3 * 1_024 - 1, ROOM), (3 * 1_024, DONE)] {
+        let (said, _) = snapshot(tally, &history, 5, room);
+        assert_eq!((said.code, said.instant, said.place), (code, 5, 1_024));
+    }
     let reversed: Vec<[u32; 4]> = (1..1_024).map(|n| [if n == 1_023 { 0 } else { n + 1 }, n, 0, NOW]).collect();
     let history = History::of_elements(1_023).with_edges(&reversed);
     assert_eq!(snapshot(tally, &history, 5, ENOUGH).0.code, DONE);
-    tally.met_exactly(&[DONE]);
+    let round: Vec<[u32; 4]> = (1..1_024).map(|n| [if n == 1 { 1_023 } else { n - 1 }, n, 0, NOW]).collect();
+    let history = History::of_elements(1_023).with_edges(&round);
+    let (said, _) = snapshot(tally, &history, 5, 0);
+    assert_eq!((said.code, said.instant, said.place), (CYCLE, 5, 1));
+    tally.met_exactly(&[DONE, CYCLE, ROOM]);
 }
 
 /// Lengths of one table around its limits: SIZE with the table as its place, before all else.

@@ -10,7 +10,7 @@ use Rattle.ground.proofs.TestLaws.{by-test}
 use Rattle.answers.specs.declared.Fault.{Fault}
 use Rattle.answers.specs.declared.Answer.{Answer}
 use Rattle.answers.specs.declared.Answer.the-variants.{Done, Size, Start, Node, Edge, Reference, Faulty, Room}
-use Rattle.answers.specs.declared.Answer.the-variants.{Tie, Early, Deep, Text, TextRoom}
+use Rattle.answers.specs.declared.Answer.the-variants.{Tie, Early, Text, TextRoom}
 use Rattle.answers.specs.Numbers.{Numbers, codeOf, numbers, refuses}
 use Rattle.answers.specs.Refusals.{fault, when, _⨾_}
 use Rattle.answers.proofs.KindLaws.{kindOf, kind-back, code-unique, every-kind}
@@ -25,8 +25,7 @@ faulty-refuses t f = every-kind (λ k. refuses (Faulty t (fault k 0))) refl (f .
 -- the answers that name no fault, with an instant and a place; the code decides which of them has three numbers
 abbrev plain : ℕ → ℕ → List Answer
 plain t p =
-    Done t p ∷ Size p ∷ Start ∷ Node p ∷ Edge p ∷ Reference p ∷ Room t p ∷ Tie t p ∷ Early t ∷ Deep t ∷ Text p
-    ∷ TextRoom p
+    Done t p ∷ Size p ∷ Start ∷ Node p ∷ Edge p ∷ Reference p ∷ Room t p ∷ Tie t p ∷ Early t ∷ Text p ∷ TextRoom p
     ∷ []
 
 abbrev pick : ℕ → List Answer → Answer → Answer
@@ -60,7 +59,6 @@ answer-back (Faulty t f) =
 answer-back (Room t p) = refl
 answer-back (Tie t p) = refl
 answer-back (Early t) = refl
-answer-back (Deep t) = refl
 answer-back (Text p) = refl
 answer-back (TextRoom p) = refl
 

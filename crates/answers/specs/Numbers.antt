@@ -7,7 +7,7 @@ use Rattle.answers.specs.declared.Kind.{Kind}
 use Rattle.answers.specs.declared.Kind.the-variants.{Overlap, Gap, Outside, Cycle, Late, Dangling, Double}
 use Rattle.answers.specs.declared.Answer.{Answer}
 use Rattle.answers.specs.declared.Answer.the-variants.{Done, Size, Start, Node, Edge, Reference, Faulty, Room}
-use Rattle.answers.specs.declared.Answer.the-variants.{Tie, Early, Deep, Text, TextRoom}
+use Rattle.answers.specs.declared.Answer.the-variants.{Tie, Early, Text, TextRoom}
 
 -- [01:What the calls answer] "An answer has code, instant, place; unnamed parts are 0."
 pub record Numbers : Type 0 where
@@ -40,7 +40,6 @@ numbers (Faulty t f) = says (codeOf (f .kind)) t (f .place)
 numbers (Room t p) = says 21 t p
 numbers (Tie t p) = says 22 t p
 numbers (Early t) = says 23 t 0
-numbers (Deep t) = says 24 t 0
 numbers (Text p) = says 31 0 p
 numbers (TextRoom p) = says 32 0 p
 

@@ -33,7 +33,6 @@ pub enum Answer {
     Room(u32, u32),
     Tie(u32, u32),
     Early(u32),
-    Deep(u32),
     Text(u32),
     TextRoom(u32),
 }
@@ -87,7 +86,6 @@ impl Answer {
             Answer::Room(_, _) => 21,
             Answer::Tie(_, _) => 22,
             Answer::Early(_) => 23,
-            Answer::Deep(_) => 24,
             Answer::Text(_) => 31,
             Answer::TextRoom(_) => 32,
         }
@@ -107,7 +105,6 @@ impl Answer {
             Answer::Room(t, _) => t,
             Answer::Tie(t, _) => t,
             Answer::Early(t) => t,
-            Answer::Deep(t) => t,
             Answer::Text(_) => 0,
             Answer::TextRoom(_) => 0,
         }
@@ -127,7 +124,6 @@ impl Answer {
             Answer::Room(_, p) => p,
             Answer::Tie(_, p) => p,
             Answer::Early(_) => 0,
-            Answer::Deep(_) => 0,
             Answer::Text(p) => p,
             Answer::TextRoom(p) => p,
         }

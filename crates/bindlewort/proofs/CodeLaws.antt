@@ -1,6 +1,6 @@
 -- The codes that each call can give; and that read text gives one answer. Assumes nothing.
 use mathlib.Core.Path.{_≡_, refl, sym, ap, _∙_, subst}
-use mathlib.Core.Bool.{true, false, _||_}
+use mathlib.Core.Bool.{true, _||_}
 use mathlib.Core.List.{List, [], _++_}
 use Prim.Native.Nat.{ℕ}
 use native.Mathlib.Omega.{arith}
@@ -11,16 +11,14 @@ use Rattle.ground.specs.Among.{isAmong}
 use Rattle.answers.specs.declared.Fault.{Fault}
 use Rattle.answers.specs.declared.Kind.the-variants.{Gap}
 use Rattle.answers.specs.declared.Answer.{Answer}
-use Rattle.answers.specs.declared.Answer.the-variants.{Deep}
 use Rattle.answers.specs.Numbers.{codeOf, numbers}
 use Rattle.answers.proofs.KindLaws.{every-kind}
 use Rattle.tables.specs.Tables.{Table, Tables, table}
 use Rattle.tables.specs.Rules.{Gives, nodes-size, edges-size, refs-size, start-now, node, edge, reference, nothing}
 use Rattle.history.specs.Faults.{History, held, GapAside, accepted, refused}
 use Rattle.verdict.specs.Checked.{Checked, ruled-out, judged}
-use Rattle.snapshot.specs.Snapshot.{Unready, ruled-out as unready-ruled-out, early, faulty, deep, Snapshot, unready}
+use Rattle.snapshot.specs.Snapshot.{Unready, ruled-out as unready-ruled-out, early, faulty, Snapshot, unready}
 use Rattle.snapshot.specs.Snapshot.{short, shows}
-use Rattle.snapshot.proofs.ReadyLaws.{never-deep}
 use Rattle.repair.specs.Repaired.{Repaired, ruled-out as repair-ruled-out, tie, mended}
 use Rattle.text.specs.declared.read.TextReading.{TextReading}
 use Rattle.text.specs.Answers.{Written, out-of-size, short as text-short, wrote, Read, wrong-text, no-room, took}
@@ -60,7 +58,6 @@ unready-among : {L : Tables} {t : ℕ} {a : Answer} → Unready L t a → Has sn
 unready-among (unready-ruled-out g e) = gives-among (drop (length ruleCodes) snapshotCodes) g
 unready-among (early o h) = refl
 unready-among {L} {t} (faulty {f = f} o b x) = shown-among (held L) t f (x .holds)
-unready-among {L} {t} (deep o b n d) = absurd (never-deep L t o n d)
 
 pub snapshot-among : {L : Tables} {t : ℕ} {before after : List ℕ} {a : Answer} → Snapshot L t before a after
     → Has snapshotCodes a
@@ -103,9 +100,3 @@ pub read-answer-unique : {s n e f : List ℕ} {a b : Answer} → Allows (ReadAns
     → Allows (ReadAnswer s n e f) b → a ≡ b
 read-answer-unique ((x, _, _, _), (p, g)) ((y, _, _, _), (q, h)) =
     sym g ∙ ap (λ (z : TextReading). z .answer) (read-unique p q .0) ∙ h
-
--- [02:Ask 8] "Prove that no input gets it": the code of DEEP is on no call's list, and a call gives no code but one of
--- its list (Demands: ..-exactly)
-pub deep-unlisted : isAmong (checkCodes ++ snapshotCodes ++ repairCodes ++ writeCodes ++ readCodes)
-    (numbers (Deep 0) .code) ≡ false
-deep-unlisted = refl

@@ -20,7 +20,6 @@ use Rattle.verdict.specs.Says.{checkSays}
 use Rattle.verdict.proofs.CheckedLaws.{checked-exists}
 use Rattle.snapshot.specs.Snapshot.{shownNumbers, Snapshot}
 use Rattle.snapshot.specs.Walk.{each, subtree}
-use Rattle.snapshot.specs.Depth.{climbs, tooDeep}
 use Rattle.snapshot.specs.Says.{below, isChild, valueAt, rowsOf, instantSays, readySays, roomSays, snapshotSays}
 use Rattle.snapshot.specs.Says.{written}
 use Rattle.snapshot.proofs.SnapshotLaws.{says-snapshot}
@@ -81,6 +80,6 @@ every (c ∷ cs) e =
 pub starred : All Promised cases
 unfolding any least sum nodeAt edgeAt refAt setEnd sizeRule badNode badRow
     sizesSay rowsSay historySays say verdict checkSays
-    each subtree shownNumbers climbs tooDeep below isChild valueAt instantSays readySays roomSays snapshotSays written
+    each subtree shownNumbers below isChild valueAt instantSays readySays roomSays snapshotSays written
     tied nextStart lastEnd newEnd withEnds repaired settleSays repairSays repairLeaves
 starred = every cases refl

@@ -1,5 +1,5 @@
--- What the theorems say of the calls: the codes that each can give, each exactly under its condition. DEEP is in no
--- list: no input gets it. Assumes nothing.
+-- What the theorems say of the calls: the codes that each can give, each exactly under its condition.
+-- Assumes nothing.
 use mathlib.Core.Path.{_≡_}
 use mathlib.Core.Logic.{_↔_}
 use mathlib.Core.Bool.{true}
@@ -31,7 +31,8 @@ ruleCodes = codesOf (passed ∷ Size 0 ∷ Start ∷ Node 0 ∷ Edge 0 ∷ Refer
 abbrev pub checkCodes : List ℕ
 checkCodes = ruleCodes ++ map codeOf kinds
 
--- [01:What the calls answer] "Snapshot at t: 1 to 5 in order, 23, then the fault at t .. with GAP set aside, 24, 21"
+-- [01:What the calls answer] "Snapshot at t: 1 to 5 in order, 23, then the fault at t .. with GAP set aside, .. 21";
+-- [02:Ask 8] "The other refusals keep their order."
 abbrev pub snapshotCodes : List ℕ
 snapshotCodes = ruleCodes ++ (codesOf (Early 0 ∷ Room 0 0 ∷ []) ++ map codeOf shownKinds)
 

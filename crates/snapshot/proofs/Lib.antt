@@ -6,7 +6,6 @@ pub mod CountLaws
 pub mod ChildLaws
 pub mod ShownLaws
 pub mod ExactLaws
-pub mod DepthLaws
 pub mod RowLaws
 pub mod ReadyLaws
 pub mod ShowLaws

@@ -14,9 +14,9 @@ use Rattle.ground.proofs.SumLaws.{count-le}
 use Rattle.answers.specs.declared.Fault.{Fault}
 use Rattle.answers.specs.declared.Kind.the-variants as kind
 use Rattle.answers.specs.declared.Answer.{Answer}
-use Rattle.answers.specs.declared.Answer.the-variants.{Early, Deep}
+use Rattle.answers.specs.declared.Answer.the-variants.{Early}
 use Rattle.answers.specs.Numbers.{refuses, passed}
-use Rattle.answers.specs.Refusals.{fault, when}
+use Rattle.answers.specs.Refusals.{fault}
 use Rattle.answers.proofs.AnswerLaws.{faulty-refuses}
 use Rattle.tables.specs.Tables.{Tables}
 use Rattle.tables.specs.Rules.{mostNodes, Obeys, Gives}
@@ -33,12 +33,10 @@ use Rattle.history.proofs.SoundLaws.{undoubled-one}
 use Rattle.history.proofs.Tree.{Tree}
 use Rattle.history.proofs.VerdictLaws.{names-unique}
 use Rattle.faults.specs.Judged.{Shows}
-use Rattle.snapshot.specs.Snapshot.{TooDeep, Ready, Unready, ruled-out, early, faulty, deep}
-use Rattle.snapshot.specs.Depth.{tooDeep}
+use Rattle.snapshot.specs.Snapshot.{Ready, Unready, ruled-out, early, faulty}
 use Rattle.snapshot.specs.Says.{shownRows, instantSays, readySays}
 use Rattle.snapshot.specs.Readied.{Readiness, refused, is-ready, Readied}
 use Rattle.snapshot.specs.Lists.{rowsBy}
-use Rattle.snapshot.proofs.DepthLaws.{shallow, not-deep}
 use Rattle.snapshot.proofs.RowLaws.{counted, walked}
 
 -- what is computed at an instant: before the start, and where a fault is named or none
@@ -58,14 +56,9 @@ module _ (H : History) (t : ℕ) where
   unfolding instantSays
   early-says h = rw (lt-ltb t (H .start) h)
 
-  module _ (begun : H .start ≤ t) where
-    fault-says : refuses (shownSay H t) ≡ true → instantSays H t ≡ shownSay H t
-    unfolding instantSays
-    fault-says f = rw (le-ltb t (H .start) begun, f)
-
-    depth-says : refuses (shownSay H t) ≡ false → instantSays H t ≡ when (tooDeep H t) (Deep t)
-    unfolding instantSays
-    depth-says n = rw (le-ltb t (H .start) begun, n)
+  begun-says : H .start ≤ t → instantSays H t ≡ shownSay H t
+  unfolding instantSays
+  begun-says h = rw (le-ltb t (H .start) h)
 
 module _ (L : Tables) (t : ℕ) where
   abbrev H : History
@@ -86,10 +79,6 @@ module _ (L : Tables) (t : ℕ) where
   pub ready-single : Known → OneReference H t
   ready-single r = none-single H t (r .none)
 
-  -- [02:Ask 8] "no chain can pass 1,023 rows"
-  pub never-deep : Obeys L → ((f : Fault) → GapAside H t f → ⊥) → TooDeep H t → ⊥
-  never-deep o n = shallow H t (obeys-ruled L o) (none-tree H t n)
-
   says-refused : refuses (historySays L) ≡ true → readySays L t ≡ historySays L
   unfolding readySays
   says-refused e = rw e
@@ -100,18 +89,17 @@ module _ (L : Tables) (t : ℕ) where
 
   says-ready : (r : Known) → readySays L t ≡ passed
   says-ready r =
-      let named = ap refuses (names-unique (GapAside H t) t (shown-named H t (ready-ruled r)) (none (r .none))) in
-      says-obeyed (r .obeys) ∙ depth-says H t (r .begun) named ∙ rw (not-deep H t (ready-ruled r) (ready-tree r))
+      says-obeyed (r .obeys) ∙ begun-says H t (r .begun)
+      ∙ names-unique (GapAside H t) t (shown-named H t (ready-ruled r)) (none (r .none))
 
   pub readiness-is : {a : Answer} → Is a → a ≡ readySays L t
   readiness-is (refused (ruled-out g e)) =
       let q = gives-is L g in
       q ∙ sym (says-refused (ap refuses (sym q) ∙ e))
   readiness-is (refused (early o h)) = sym (says-obeyed o ∙ early-says H t h)
-  readiness-is (refused (faulty {f = f} o b x)) =
-      let q = names-unique (GapAside H t) t (first x) (shown-named H t (obeys-ruled L o)) in
-      q ∙ sym (says-obeyed o ∙ fault-says H t b (ap refuses (sym q) ∙ faulty-refuses t f))
-  readiness-is (refused (deep o b n d)) = absurd (never-deep o n d)
+  readiness-is (refused (faulty o b x)) =
+      names-unique (GapAside H t) t (first x) (shown-named H t (obeys-ruled L o))
+      ∙ sym (says-obeyed o ∙ begun-says H t b)
   readiness-is (is-ready r) = sym (says-ready r)
 
   -- the answers: where a rule is broken, before the start, and what the judge names
@@ -119,7 +107,7 @@ module _ (L : Tables) (t : ℕ) where
   rules-readiness q e = refused (ruled-out (subst (Gives L) (sym q) (gives-says L)) e)
 
   shown-readiness : Obeys L → L .start ≤ t → {a : Answer} → Names (GapAside H t) t a → Is a
-  shown-readiness o b (none n) = is-ready (record { obeys = o; begun = b; none = n; shallow = never-deep o n })
+  shown-readiness o b (none n) = is-ready (record { obeys = o; begun = b; none = n })
   shown-readiness o b (first x) = refused (faulty o b x)
 
   pub readiness-exists : (a : Answer) × Is a
@@ -136,7 +124,6 @@ module _ (L : Tables) (t : ℕ) where
   unready-refuses (ruled-out g e) = e
   unready-refuses (early o h) = refl
   unready-refuses (faulty {f = f} o b x) = faulty-refuses t f
-  unready-refuses (deep o b n d) = refl
 
   readiness-ready : {a : Answer} → Is a → refuses a ≡ false → Known
   readiness-ready (refused u) e = absurd (false≢true (sym e ∙ unready-refuses u))

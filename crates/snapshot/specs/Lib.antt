@@ -1,7 +1,6 @@
 pub mod Snapshot
 pub mod Exact
 pub mod Walk
-pub mod Depth
 pub mod Says
 pub mod Readied
 pub mod Counts

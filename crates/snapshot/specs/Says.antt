@@ -17,7 +17,7 @@ use lib.ListN.{length}
 use Rattle.ground.specs.Searches.{any, least}
 use Rattle.ground.specs.Lists.{front}
 use Rattle.answers.specs.declared.Answer.{Answer}
-use Rattle.answers.specs.declared.Answer.the-variants.{Done, Room, Early, Deep}
+use Rattle.answers.specs.declared.Answer.the-variants.{Done, Room, Early}
 use Rattle.answers.specs.Numbers.{refuses}
 use Rattle.answers.specs.Refusals.{when, _⨾_}
 use Rattle.tables.specs.Tables.{RefRow, noNode, Tables}
@@ -26,7 +26,6 @@ use Rattle.history.specs.Faults.{History, held}
 use Rattle.history.specs.Computed.{isInto, refersFrom, shownSay}
 use Rattle.snapshot.specs.Snapshot.{ShownRow, shownWidth, shownNumbers}
 use Rattle.snapshot.specs.Walk.{subtree}
-use Rattle.snapshot.specs.Depth.{tooDeep}
 
 unfoldable pub below : (ℕ → Bool) → ℕ → List ℕ
 below p zero = []
@@ -54,7 +53,7 @@ module _ (H : History) (t : ℕ) where
   rowsOf = shownNumbers shownRows
 
   unfoldable pub instantSays : Answer
-  instantSays = when (ltb t (H .start)) (Early t) ⨾ shownSay H t ⨾ when (tooDeep H t) (Deep t)
+  instantSays = when (ltb t (H .start)) (Early t) ⨾ shownSay H t
 
 unfoldable pub readySays : Tables → ℕ → Answer
 readySays L t = historySays L ⨾ instantSays (held L) t

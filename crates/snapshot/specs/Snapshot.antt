@@ -8,18 +8,11 @@ use Rattle.ground.specs.Least.{Before, Smallest}
 use Rattle.ground.specs.Lists.{front}
 use Rattle.answers.specs.declared.Fault.{Fault}
 use Rattle.answers.specs.declared.Answer.{Answer}
-use Rattle.answers.specs.declared.Answer.the-variants.{Done, Faulty, Room, Early, Deep}
+use Rattle.answers.specs.declared.Answer.the-variants.{Done, Faulty, Room, Early}
 use Rattle.answers.specs.Numbers.{refuses}
 use Rattle.tables.specs.Tables.{noNode, Tables}
 use Rattle.tables.specs.Rules.{Obeys, Gives}
-use Rattle.history.specs.Faults.{History, held, Into, Chain, RefersFrom, First, GapAside}
-
--- [01:What the calls answer] DEEP "a chain in force at the instant has more than 1,023 rows"
-abbrev pub mostDeep : ℕ
-mostDeep = 1023
-
-abbrev pub TooDeep : History → ℕ → Type 0
-TooDeep H t = (a : ℕ) × (b : ℕ) × (is : List ℕ) × Chain (H .edges) (H .edge) t a b is × (mostDeep < length is)
+use Rattle.history.specs.Faults.{History, held, Into, RefersFrom, First, GapAside}
 
 -- [01:What the calls answer] "A row is node, parent, referent."
 pub record ShownRow : Type 0 where
@@ -74,15 +67,13 @@ module _ (L : Tables) (t : ℕ) where
     pub obeys : Obeys L
     pub begun : L .start ≤ t
     pub none : (f : Fault) → GapAside (held L) t f → ⊥
-    pub shallow : TooDeep (held L) t → ⊥
 
   -- [01:What the calls answer] Snapshot: "1 to 5 in order, 23, then the fault at t of smallest code and place with GAP
-  -- set aside, 24"
+  -- set aside"
   pub data Unready : Answer → Type 0 where
     ruled-out : {a : Answer} → Gives L a → refuses a ≡ true → Unready a
     early : Obeys L → t < L .start → Unready (Early t)
     faulty : {f : Fault} → Obeys L → L .start ≤ t → First (GapAside (held L) t) f → Unready (Faulty t f)
-    deep : Obeys L → L .start ≤ t → ((f : Fault) → GapAside (held L) t f → ⊥) → TooDeep (held L) t → Unready (Deep t)
 
   -- [01:What the calls answer] "21 (instant t, place: rows needed). Otherwise code 0, instant t, place k, and the first
   -- 3k numbers of the output hold k rows, the rest unchanged."; "No refusal writes to a lent table or buffer."

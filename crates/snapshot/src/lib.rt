@@ -37,7 +37,7 @@ pub fn show(parents: &[u32], n: usize, refs: &[u32], k: usize, t: u32, out: &mut
 }
 
 // Whether what a history contains at t can be shown: every refusal of a snapshot but ROOM. Where nothing is refused, up
-// holds the parent of each node at t. A history without a cycle is never too deep: nothing asks for code 24.
+// holds the parent of each node at t.
 pub fn ready(
     start: u32,
     nodes: &[u32],

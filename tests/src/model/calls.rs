@@ -22,7 +22,8 @@ pub fn check_every_instant(start: u32, nodes: &[u32], edges: &[u32], refs: &[u32
     }
 }
 
-/// "1 to 5 in order, 23, then the fault at t of smallest code and place with GAP set aside, 24, 21"
+/// "1 to 5 in order, 23, then the fault at t of smallest code and place with GAP set aside, .. 21"; Ask 8: "The other
+/// refusals keep their order."
 pub fn snapshot(start: u32, nodes: &[u32], edges: &[u32], refs: &[u32], t: u32, out: &mut [u32]) -> Answered {
     let history = match ruled(start, nodes, edges, refs) {
         Err(refusal) => return refusal,
@@ -37,10 +38,7 @@ pub fn snapshot(start: u32, nodes: &[u32], edges: &[u32], refs: &[u32], t: u32, 
     }
     let children = children(history.nodes, &moment.edges);
     let mut rows = Vec::new();
-    let deepest = subtree(&moment, &children, 0, NO_NODE, &mut rows);
-    if deepest > 1_023 {
-        return answer(24, t, 0);
-    }
+    subtree(&moment, &children, 0, NO_NODE, &mut rows);
     let count = rows.len() / SNAPSHOT_WIDTH;
     if out.len() < rows.len() {
         return answer(21, t, count);
@@ -49,9 +47,8 @@ pub fn snapshot(start: u32, nodes: &[u32], edges: &[u32], refs: &[u32], t: u32, 
     answer(0, t, count)
 }
 
-/// "a node is followed by the whole subtree of each child, children by rising node number". Answers the rows of the
-/// longest chain from the node.
-fn subtree(moment: &Moment, children: &[Vec<usize>], node: usize, parent: u32, rows: &mut Vec<u32>) -> usize {
+/// "a node is followed by the whole subtree of each child, children by rising node number"
+fn subtree(moment: &Moment, children: &[Vec<usize>], node: usize, parent: u32, rows: &mut Vec<u32>) {
     // "the target of the smallest reference row in force from that node, or 4,294,967,295 if there is none"
     let referent = moment
         .history
@@ -60,11 +57,9 @@ fn subtree(moment: &Moment, children: &[Vec<usize>], node: usize, parent: u32, r
         .find(|row| row.one == node && row.in_force(moment.t))
         .map_or(NO_NODE, |row| row.other as u32);
     rows.extend([node as u32, parent, referent]);
-    let mut longest = 0;
     for &child in &children[node] {
-        longest = longest.max(1 + subtree(moment, children, child, node as u32, rows));
+        subtree(moment, children, child, node as u32, rows);
     }
-    longest
 }
 
 /// "1 to 4 in order, then 22 with place the smallest row that shares its child and its start with a smaller row"
