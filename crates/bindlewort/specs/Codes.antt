@@ -1,13 +1,11 @@
--- What the theorems say of the calls: the codes that each can give, each exactly under its condition.
--- Assumes nothing.
+-- What the theorems say of the calls: the codes that each can give, each exactly under its condition. Assumes nothing.
 use mathlib.Core.Path.{_≡_}
 use mathlib.Core.Logic.{_↔_}
 use mathlib.Core.Bool.{true}
 use mathlib.Core.List.{List, [], _∷_, _++_, map}
-use Prim.Native.Nat.{ℕ, _*_, _≤_, _<_}
+use Prim.Native.Nat.{ℕ, _*_}
 use lib.ListN.{take}
 use Rattle.ground.specs.Among.{isAmong}
-use Rattle.answers.specs.declared.Fault.{Fault}
 use Rattle.answers.specs.declared.Answer.{Answer}
 use Rattle.answers.specs.declared.Answer.the-variants.{Size, Start, Node, Edge, Reference, Room, Tie, Early, Text}
 use Rattle.answers.specs.declared.Answer.the-variants.{TextRoom}
