@@ -1,11 +1,13 @@
 // What the calls answer. The documents' numbers stand in specs/Numbers.antt and, for the running program, in the two
 // functions `code` below: nowhere else in the library.
+#![tactic(auto)]
+
 ghost use Rattle.std.specs.Prelude.{◌≡◌};
 ghost use Rattle.answers.specs.Numbers.{code_of, numbers, refuses};
 ghost use Rattle.answers.specs.Refusals.{fault};
 
 // The kinds of faults, in the order of their codes.
-#[derive(Drop)]
+#[derive(Clone, Copy)]
 pub enum Kind {
     Overlap,
     Gap,
@@ -17,14 +19,14 @@ pub enum Kind {
 }
 
 // A fault at an instant: its kind, and its place, a node or a reference row.
-#[derive(Drop)]
+#[derive(Clone, Copy)]
 pub struct Fault {
     pub kind: Kind,
     pub place: u32,
 }
 
 // An instant stands before a place. Done is code 0.
-#[derive(Drop)]
+#[derive(Clone, Copy)]
 pub enum Answer {
     Done(u32, u32),
     Size(u32),

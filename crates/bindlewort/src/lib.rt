@@ -1,5 +1,7 @@
 // The public calls. None has a `requires`, and each promise determines the answer and every number and byte then held
 // by what was lent, on refusals too (proofs/Demands.antt). What is lent by `&` cannot change.
+#![tactic(auto)]
+
 ghost use Rattle.std.specs.Prelude.{[]};
 ghost use Rattle.verdict.specs.Checked.{Checked};
 ghost use Rattle.snapshot.specs.Snapshot.{Snapshot};
@@ -12,7 +14,7 @@ use tables::rows::{EDGE_WIDTH, NODE_WIDTH, REF_WIDTH};
 
 // An answer in the documents' numbers.
 #[repr(C)]
-#[derive(Drop)]
+#[derive(Clone, Copy)]
 pub struct Answered {
     pub code: u32,
     pub instant: u32,
@@ -21,7 +23,7 @@ pub struct Answered {
 
 // What read text gives: its answer, the start and how many rows each table has.
 #[repr(C)]
-#[derive(Drop)]
+#[derive(Clone, Copy)]
 pub struct Reading {
     pub answer: Answered,
     pub start: u32,

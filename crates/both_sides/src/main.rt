@@ -1,5 +1,7 @@
 // Runs the cases of document 01's 'Both sides of the line' that are not starred, and compares what each call answers
 // and leaves with what the document says. Prints a line for each case, and how many are as stated.
+#![tactic(auto)]
+
 ghost use Rattle.std.specs.Prelude.{◌≡◌, true, cond, ◌↔◌, [], ℕ, ◌*◌, ◌≤◌, ◌<◌, length, get_or, take, replicate};
 ghost use Rattle.verdict.specs.Checked.{Checked};
 ghost use Rattle.snapshot.specs.Snapshot.{Snapshot};

@@ -1,5 +1,7 @@
 // Document 01's program `check`: reads a text from standard input, and prints the code, the instant and the place of
 // read text if that refused, else of check.
+#![tactic(auto)]
+
 ghost use Rattle.std.specs.Prelude.{◌≡◌, ◌+◌, ◌≤◌, length, take};
 ghost use Rattle.ground.specs.Stores.{Put};
 ghost use Rattle.check_history.specs.Says.{Says, Prints, most_input, most_output, printed, Reported};

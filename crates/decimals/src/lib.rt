@@ -1,4 +1,6 @@
 // Decimals: how many bytes one has, writing one, reading the longest one of a number at most a bound.
+#![tactic(auto)]
+
 ghost use Rattle.std.specs.Prelude.{◌≡◌, ◌+◌, ◌≤◌, length, drop};
 ghost use Rattle.decimals.specs.Decimals.{dec};
 ghost use Rattle.decimals.specs.Reads.{grows, more, num_at};
@@ -6,7 +8,7 @@ ghost use Rattle.ground.specs.Stores.{Put};
 
 // A number that was read, with the place after it; or none stands there, and what stands there begins one up to this
 // place.
-#[derive(Drop)]
+#[derive(Clone, Copy)]
 pub enum Num {
     Is(u32, usize),
     Missing(usize),

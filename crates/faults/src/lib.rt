@@ -1,4 +1,6 @@
 // The faults at one instant, and how long nothing changes after it.
+#![tactic(auto)]
+
 pub mod judge;
 pub mod leaves;
 pub mod refs;

@@ -10,7 +10,7 @@ use tables::rows::{Side, ref_in_force, ref_side};
 use tables::sizes::MOST_NODES;
 
 // The smallest place of each kind, or the count of places where there is none.
-#[derive(Drop)]
+#[derive(Clone, Copy)]
 pub struct RefFaults {
     pub late: usize,
     pub dangling: usize,

@@ -1,5 +1,7 @@
 // What is not about wards: general laws (specs/ defines, proofs/ proves), and the smaller and the larger of two
 // numbers.
+#![tactic(auto)]
+
 ghost use Rattle.std.specs.Prelude.{◌≡◌, min, max};
 
 pub fn smaller(a: u32, b: u32) -> u32

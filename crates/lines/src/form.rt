@@ -4,7 +4,7 @@ ghost use Rattle.lines.specs.Lines.{one_form_of, is_end_of, mark};
 
 // How many numbers the line has, how many more a row of the table has, which lines leave out, whether the last is an
 // end, and the bounds of the others.
-#[derive(Drop)]
+#[derive(Clone, Copy)]
 pub struct Form {
     pub columns: usize,
     pub hidden: usize,

@@ -11,7 +11,7 @@ use decimals::{Num, read_decimal};
 use tables::label::{End, NOW};
 
 // Lines that were read, by the place after them; or the place up to which what stands there begins such lines.
-#[derive(Drop)]
+#[derive(Clone, Copy)]
 pub enum Ended {
     At(usize),
     Wrong(usize),

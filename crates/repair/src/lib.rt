@@ -1,4 +1,6 @@
 // The call repair: the rows into each child made to follow one another, from its first start to its last end.
+#![tactic(auto)]
+
 mod mend;
 mod tie;
 

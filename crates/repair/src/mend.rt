@@ -13,7 +13,7 @@ use tables::rows::{edge_child, edge_label, set_edge_end};
 use tables::sizes::MOST_EDGES;
 
 // What the end of a row depends on: among the rows into its child the next start, or 0 for none, and the largest end.
-#[derive(Drop)]
+#[derive(Clone, Copy)]
 struct Bounds {
     next: u32,
     last: u32,

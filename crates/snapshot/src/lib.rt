@@ -1,4 +1,6 @@
 // The call snapshot: what a history contains at an instant.
+#![tactic(auto)]
+
 ghost use Rattle.std.specs.Prelude.{◌≡◌};
 ghost use Rattle.ground.specs.Lists.{front};
 ghost use Rattle.tables.specs.Tables.{lent};

@@ -6,13 +6,13 @@ ghost use Rattle.tables.specs.Labels.{during, instant_of, end_of, label_of};
 pub const NOW: u32 = 4294967295;
 
 // A row's end: a finite instant, or the word now.
-#[derive(Drop)]
+#[derive(Clone, Copy)]
 pub enum End {
     At(u32),
     Current,
 }
 
-#[derive(Drop)]
+#[derive(Clone, Copy)]
 pub struct Label {
     pub from: u32,
     pub end: End,

@@ -16,7 +16,7 @@ pub const REF_WIDTH: usize = 4;
 pub const NO_NODE: u32 = 4294967295;
 
 // The two ends of a reference.
-#[derive(Drop)]
+#[derive(Clone, Copy)]
 pub enum Side {
     Attribute,
     Target,

@@ -6,7 +6,7 @@ use tables::rows::{EDGE_WIDTH, NODE_WIDTH, REF_WIDTH};
 pub const EDITION: u32 = 1;
 
 // The start, and how many rows each table has.
-#[derive(Drop)]
+#[derive(Clone, Copy)]
 pub struct Counts {
     pub start: u32,
     pub nodes: u32,

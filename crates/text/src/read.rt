@@ -15,7 +15,7 @@ use tables::rows::{EDGE_WIDTH, NODE_WIDTH, REF_WIDTH};
 use tables::sizes::{LEAST_NODES, MOST_EDGES, MOST_NODES, MOST_REFS};
 
 // What read text answers: with the answer, the start and how many rows each table has, 0 where it refuses.
-#[derive(Drop)]
+#[derive(Clone, Copy)]
 pub struct TextReading {
     pub answer: Answer,
     pub start: u32,
@@ -25,7 +25,7 @@ pub struct TextReading {
 }
 
 // What the first five lines say, and the place after them; or the place at which they are refused.
-#[derive(Drop)]
+#[derive(Clone, Copy)]
 enum Head {
     Counted(Counts, usize),
     Misplaced(usize),

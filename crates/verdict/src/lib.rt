@@ -1,4 +1,6 @@
 // The call check: codes 1 to 5, then the earliest fault, found by a sweep over the change instants.
+#![tactic(auto)]
+
 ghost use Rattle.tables.specs.Tables.{edge_at, lent};
 ghost use Rattle.history.specs.Faults.{history_of, Verdict};
 ghost use Rattle.history.specs.Ruled.{LentRows};

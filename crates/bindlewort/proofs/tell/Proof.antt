@@ -20,5 +20,5 @@ returns c =
           c.place.ensures i;
     }
 
-pub tell-spec : {M : Type 1} → statement M
-tell-spec = tie.close (tie.spec code-requires instant-requires place-requires returns)
+pub tell_spec : {M : Type 1} → statement M
+tell_spec = tie.close (tie.spec code-requires instant-requires place-requires returns)

@@ -27,8 +27,8 @@ report-requires c κs = search rules
 returns : tie.Need-returns
 returns c = check_counted c.report.ensures c.before.before.bw-check.ensures c.before.same_answer.ensures
 
-pub check-is-spec : {M : Type 1} → statement M
-check-is-spec =
+pub check_is_spec : {M : Type 1} → statement M
+check_is_spec =
     tie.close
     (tie.spec
     write-all-requires

@@ -11,5 +11,5 @@ returns-2 c = rw (ne_eqb _ _ c.before.if1.false, eq-eqb _ _ c.if2.true)
 returns-3 : tie.Need-returns-3
 returns-3 c = rw (ne_eqb _ _ c.before.if1.false, ne_eqb _ _ c.if2.false)
 
-pub element-number-spec : {M : Type 1} → statement M
-element-number-spec = tie.close (tie.spec returns returns-2 returns-3)
+pub element_number_spec : {M : Type 1} → statement M
+element_number_spec = tie.close (tie.spec returns returns-2 returns-3)

@@ -13,5 +13,5 @@ slice-aggregate-result c = sym (length-take-le _ _ (search rules))
 returns : tie.Need-returns
 returns c = search rules
 
-pub first-rows-spec : {M : Type 1} → statement M
-first-rows-spec = tie.close (tie.spec mul-n slice-aggregate-result returns)
+pub first_rows_spec : {M : Type 1} → statement M
+first_rows_spec = tie.close (tie.spec mul-n slice-aggregate-result returns)

@@ -40,8 +40,8 @@ same_length c = search rules
 returns : tie.Need-returns invariant-loop decreases-loop
 returns c = λ k l. c.before.loop.invariant.1.passed k (search rules)
 
-pub put-elements-spec : {M : Type 1} → statement M
-put-elements-spec =
+pub put_elements_spec : {M : Type 1} → statement M
+put_elements_spec =
     tie.close
     (tie.spec
     invariant-loop

@@ -108,8 +108,8 @@ returns-2 c =
       λ _. c.before.same.ensures.1 (same_text w).1,
     )
 
-pub read-is-written-spec : {M : Type 1} → statement M
-read-is-written-spec =
+pub read_is_written_spec : {M : Type 1} → statement M
+read_is_written_spec =
     tie.close
     (tie.spec
     slice-aggregate-bw-read-text

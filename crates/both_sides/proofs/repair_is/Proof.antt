@@ -29,8 +29,8 @@ returns c =
     repair_counted c.report.ensures c.before.before.before.before.before.bw-repair.ensures
     c.before.same.ensures
 
-pub repair-is-spec : {M : Type 1} → statement M
-repair-is-spec =
+pub repair_is_spec : {M : Type 1} → statement M
+repair_is_spec =
     tie.close
     (tie.spec
     write-all-requires

@@ -21,5 +21,5 @@ returns-3 c =
       λ e. eq-eqb a b (ap (λ (x : Answered). x.place) e),
     )
 
-pub same-answer-spec : {M : Type 1} → statement M
-same-answer-spec = tie.close (tie.spec returns returns-2 returns-3)
+pub same_answer_spec : {M : Type 1} → statement M
+same_answer_spec = tie.close (tie.spec returns returns-2 returns-3)

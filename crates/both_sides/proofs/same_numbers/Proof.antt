@@ -55,8 +55,8 @@ returns-3 c =
     let inv = c.before.loop.invariant in
     (λ e. ext_get_or 0 _ _ inv.1 (λ k l. inv.2 k (omega arith)), λ e. refl)
 
-pub same-numbers-spec : {M : Type 1} → statement M
-same-numbers-spec =
+pub same_numbers_spec : {M : Type 1} → statement M
+same_numbers_spec =
     tie.close
     (tie.spec
     invariant-loop

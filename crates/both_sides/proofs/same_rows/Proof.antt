@@ -15,5 +15,5 @@ returns c =
     let w = c.same_numbers.ensures in
     (λ e. sym is ∙ w.0 e, λ e. w.1 (is ∙ e))
 
-pub same-rows-spec : {M : Type 1} → statement M
-same-rows-spec = tie.close (tie.spec first-rows-requires same-numbers-requires returns)
+pub same_rows_spec : {M : Type 1} → statement M
+same_rows_spec = tie.close (tie.spec first-rows-requires same-numbers-requires returns)

@@ -35,8 +35,8 @@ returns c =
     snapshot_counted c.report.ensures c.before.before.before.before.bw-snapshot.ensures
     c.before.same.ensures
 
-pub snapshot-is-spec : {M : Type 1} → statement M
-snapshot-is-spec =
+pub snapshot_is_spec : {M : Type 1} → statement M
+snapshot_is_spec =
     tie.close
     (tie.spec
     write-all-requires

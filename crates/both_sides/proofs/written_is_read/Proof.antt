@@ -122,8 +122,8 @@ returns-2 c =
     let three = c.before.before.same-rows3.ensures.1 s.refs in
     counts_one (rw (eq-eqb _ _ s.start, one, two, three) at c.report2.ensures) w
 
-pub written-is-read-spec : {M : Type 1} → statement M
-written-is-read-spec =
+pub written_is_read_spec : {M : Type 1} → statement M
+written_is_read_spec =
     tie.close
     (tie.spec
     bw-write-text-requires

@@ -86,8 +86,8 @@ returns-2 c =
     let d = c.before.before.before.before.before.before.before in
     read_says d.before.before.before.before.before.read-text.ensures (passed d) c.check.ensures
 
-pub answer-spec : {M : Type 1} → statement M
-answer-spec =
+pub answer_spec : {M : Type 1} → statement M
+answer_spec =
     tie.close
     (tie.spec
     slice-aggregate-read-text

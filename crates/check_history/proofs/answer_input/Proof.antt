@@ -15,5 +15,5 @@ returns c = short c.before.if1.true c.answer.ensures
 returns-2 : tie.Need-returns-2
 returns-2 c = long c.if1.false
 
-pub answer-input-spec : {M : Type 1} → statement M
-answer-input-spec = tie.close (tie.spec answer-requires cast-t5 returns returns-2)
+pub answer_input_spec : {M : Type 1} → statement M
+answer_input_spec = tie.close (tie.spec answer-requires cast-t5 returns returns-2)

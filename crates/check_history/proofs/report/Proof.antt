@@ -20,8 +20,8 @@ same_length c = search rules
 returns : tie.Need-returns
 returns c = search rules
 
-pub report-spec : {M : Type 1} → statement M
-report-spec =
+pub report_spec : {M : Type 1} → statement M
+report_spec =
     tie.close
     (tie.spec
     slice-aggregate-answer-input

@@ -75,8 +75,8 @@ returns c =
           (omega arith) (omega arith),
     )
 
-pub write-answer-spec : {M : Type 1} → statement M
-write-answer-spec =
+pub write_answer_spec : {M : Type 1} → statement M
+write_answer_spec =
     tie.close
     (tie.spec
     slice-aggregate-write-one

@@ -28,5 +28,5 @@ loop-again c = omega (arith, dec_length_snoc c.before.loop.x c.loop-test.true)
 returns : tie.Need-returns invariant-loop decreases-loop
 returns c = omega (arith, ap length (dec_small c.before.loop.x c.loop-test.false))
 
-pub decimal-width-spec : {M : Type 1} → statement M
-decimal-width-spec = tie.close (tie.spec invariant-loop decreases-loop loop-holds add-w loop-less loop-again returns)
+pub decimal_width_spec : {M : Type 1} → statement M
+decimal_width_spec = tie.close (tie.spec invariant-loop decreases-loop loop-holds add-w loop-less loop-again returns)

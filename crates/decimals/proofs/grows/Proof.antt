@@ -25,5 +25,5 @@ returns-3 : tie.Need-returns-3
 unfolding grows
 returns-3 c = simp (le-ltb _ _ c.before.before.if1.false, le-ltb _ _ c.before.if2.false, c.wide.ensures)
 
-pub grows-spec : {M : Type 1} → statement M
-grows-spec = tie.close (tie.spec returns returns-2 mul-result wide-requires add-result returns-3)
+pub grows_spec : {M : Type 1} → statement M
+grows_spec = tie.close (tie.spec returns returns-2 mul-result wide-requires add-result returns-3)

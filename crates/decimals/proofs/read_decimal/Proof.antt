@@ -54,8 +54,8 @@ returns-4 c =
     sym (num_missing _ _ _ (omega arith) c.before.before.if2.false
     (sym c.before.grows.ensures ∙ c.if3.false))
 
-pub read-decimal-spec : {M : Type 1} → statement M
-read-decimal-spec =
+pub read_decimal_spec : {M : Type 1} → statement M
+read_decimal_spec =
     tie.close
     (tie.spec
     returns

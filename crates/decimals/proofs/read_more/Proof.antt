@@ -66,8 +66,8 @@ returns c = more_stop (loop c.before).loop.inv (omega arith) (sym c.before.grows
 returns-2 : tie.Need-returns-2 invariant-loop decreases-loop
 returns-2 c = more_end c.before.loop.invariant (omega arith)
 
-pub read-more-spec : {M : Type 1} → statement M
-read-more-spec =
+pub read_more_spec : {M : Type 1} → statement M
+read_more_spec =
     tie.close
     (tie.spec invariant-loop decreases-loop loop-holds shared-slice-read-c grows-requires mul-v sub-v cast-v add-v add-i loop-less
     loop-again returns returns-2)

@@ -72,8 +72,8 @@ returns c =
     let p = digits_done _ a.at a.v l.out l.i l.x c.loop-test.false l.invariant in
     record { held = p.held; after = omega arith }
 
-pub write-decimal-spec : {M : Type 1} → statement M
-write-decimal-spec =
+pub write_decimal_spec : {M : Type 1} → statement M
+write_decimal_spec =
     tie.close
     (tie.spec invariant-loop decreases-loop decimal-width-requires add-end sub-i loop-holds cast-out add-out slice-write-out sub-i-2
     loop-less loop-again

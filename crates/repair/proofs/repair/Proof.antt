@@ -47,8 +47,8 @@ returns-2 c =
     let right = settled.before.before in
     repaired_of (on_rows _ (judged right).judge-history.ensures (passed right) settled.settle.ensures)
 
-pub repair-spec : {M : Type 1} → statement M
-repair-spec =
+pub repair_spec : {M : Type 1} → statement M
+repair_spec =
     tie.close
     (tie.spec
     slice-aggregate-judge-history

@@ -37,8 +37,8 @@ returns-2 c =
     let none = mended.before.before in
     on_mend _ _ none.before.first-tie.ensures (search rules) none.if1.false mended.mend.ensures
 
-pub settle-spec : {M : Type 1} → statement M
-settle-spec =
+pub settle_spec : {M : Type 1} → statement M
+settle_spec =
     tie.close
     (tie.spec
     first-tie-requires

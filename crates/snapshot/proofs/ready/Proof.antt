@@ -70,8 +70,8 @@ returns-3 c =
     (omega (arith, (obeys_ruled (tables s) o).few_nodes, s.pre.long))
     shown.judge-shown.ensures
 
-pub ready-spec : {M : Type 1} → statement M
-ready-spec =
+pub ready_spec : {M : Type 1} → statement M
+ready_spec =
     tie.close
     (tie.spec
     judge-history-requires

@@ -75,8 +75,8 @@ returns c =
     show_written (entry l).pre (referents l) l.link.ensures (omega (arith, (entry l).pre.few))
     (listed l).list-referents.ensures w.walk.ensures
 
-pub show-spec : {M : Type 1} → statement M
-show-spec =
+pub show_spec : {M : Type 1} → statement M
+show_spec =
     tie.close
     (tie.spec
     slice-aggregate-list-referents

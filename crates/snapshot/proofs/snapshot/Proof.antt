@@ -80,8 +80,8 @@ returns-3 c =
     on_rows _ _ _ (asked d).ready.ensures (ready d) counted.count-rows.ensures fits.if2.false
     shown.show.ensures
 
-pub snapshot-spec : {M : Type 1} → statement M
-snapshot-spec =
+pub snapshot_spec : {M : Type 1} → statement M
+snapshot_spec =
     tie.close
     (tie.spec
     slice-aggregate-ready

@@ -25,7 +25,7 @@ sweep-requires c κs = obeys_lent (lent _ _ _ _ _ _ _) (on_obeyed _ (rules c).ju
 returns-2 : tie.Need-returns-2
 returns-2 c = judged (on_obeyed _ (rules c.before).judge-history.ensures (cc)) c.sweep.ensures
 
-pub check-spec : {M : Type 1} → statement M
-check-spec =
+pub check_spec : {M : Type 1} → statement M
+check_spec =
     tie.close
     (tie.spec judge-history-requires refuses-requires returns sweep-requires returns-2)

@@ -33,8 +33,8 @@ sweep-from-requires c κs = (search rules, (search rules, sweep_starts (search r
 returns : tie.Need-returns
 returns c = search rules
 
-pub sweep-spec : {M : Type 1} → statement M
-sweep-spec =
+pub sweep_spec : {M : Type 1} → statement M
+sweep_spec =
     tie.close
     (tie.spec
     slice-aggregate-note-rows

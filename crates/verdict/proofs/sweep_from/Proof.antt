@@ -51,8 +51,8 @@ loop-again c =
     sweep_on _ (said c.before).judge.ensures (search rules) (search rules) (cc) c.before.until.ensures
     c.if2.false
 
-pub sweep-from-spec : {M : Type 1} → statement M
-sweep-from-spec =
+pub sweep_from_spec : {M : Type 1} → statement M
+sweep_from_spec =
     tie.close
     (tie.spec
     invariant-loop

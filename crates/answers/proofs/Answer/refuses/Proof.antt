@@ -11,5 +11,5 @@ code-requires c κs = search rules
 returns : tie.Need-returns
 returns c = ap (λ x. not (eqb x 0)) c.code.ensures
 
-pub refuses-spec : {M : Type 1} → statement M
-refuses-spec = tie.close (tie.spec code-requires returns)
+pub refuses_spec : {M : Type 1} → statement M
+refuses_spec = tie.close (tie.spec code-requires returns)

@@ -115,8 +115,8 @@ returns-5 c =
 returns-6 : tie.Need-returns-6
 returns-6 c = past₅ c rest_none
 
-pub after-gap-spec : {M : Type 1} → statement M
-after-gap-spec =
+pub after_gap_spec : {M : Type 1} → statement M
+after_gap_spec =
     tie.close
     (tie.spec
     first-outside-requires

@@ -108,8 +108,8 @@ returns-3 c =
     let later = c.before.before in
     past₂ later (c.after-gap.ensures.answer _ _ _ (cleared (past later.before)))
 
-pub judge-spec : {M : Type 1} → statement M
-judge-spec =
+pub judge_spec : {M : Type 1} → statement M
+judge_spec =
     tie.close
     (tie.spec
     slice-aggregate-take-rows

@@ -81,8 +81,8 @@ returns-2 c =
     let past = c.before.before in
     record { answer = past₁ past (c.after-gap.ensures.answer _ _ _ (cleared past)); slots = search rules }
 
-pub judge-shown-spec : {M : Type 1} → statement M
-judge-shown-spec =
+pub judge_shown_spec : {M : Type 1} → statement M
+judge_shown_spec =
     tie.close
     (tie.spec
     take-rows-requires

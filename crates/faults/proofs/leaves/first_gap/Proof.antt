@@ -34,8 +34,8 @@ loop-again c = (search rules, search_more _ _ (search rules) (cc))
 returns-2 : tie.Need-returns-2 invariant-loop decreases-loop
 returns-2 c = search_missed _ c.loop-test.false (search rules)
 
-pub first-gap-spec : {M : Type 1} → statement M
-first-gap-spec =
+pub first_gap_spec : {M : Type 1} → statement M
+first_gap_spec =
     tie.close
     (tie.spec
     invariant-loop

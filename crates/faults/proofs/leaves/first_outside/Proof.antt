@@ -31,7 +31,7 @@ loop-again c = search rules
 returns : tie.Need-returns invariant-loop decreases-loop
 returns c = parts_all c.before.before.before.args.up.now c.before.loop.invariant.1 (omega arith)
 
-pub first-outside-spec : {M : Type 1} → statement M
-first-outside-spec =
+pub first_outside_spec : {M : Type 1} → statement M
+first_outside_spec =
     tie.close
     (tie.spec invariant-loop decreases-loop loop-holds part-of-requires add-c loop-less loop-again returns)

@@ -38,8 +38,8 @@ loop-again c = (search rules, search_more _ _ (search rules) (ne_eqb _ _ c.if1.f
 returns-2 : tie.Need-returns-2 invariant-loop decreases-loop
 returns-2 c = search_missed _ c.loop-test.false (search rules)
 
-pub first-overlap-spec : {M : Type 1} → statement M
-first-overlap-spec =
+pub first_overlap_spec : {M : Type 1} → statement M
+first_overlap_spec =
     tie.close
     (tie.spec
     invariant-loop

@@ -20,8 +20,8 @@ shared-slice-read-result-2 c = search rules
 returns : tie.Need-returns
 returns c = cc
 
-pub is-gap-spec : {M : Type 1} → statement M
-is-gap-spec =
+pub is_gap_spec : {M : Type 1} → statement M
+is_gap_spec =
     tie.close
     (tie.spec
     is-absent-requires

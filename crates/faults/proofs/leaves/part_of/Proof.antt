@@ -29,7 +29,7 @@ returns-2 c = part_found (start c.before.before.before).requires refl (omega ari
 returns-3 : tie.Need-returns-3
 returns-3 c = part_present (start c.before.before.before).requires (cc)
 
-pub part-of-spec : {M : Type 1} → statement M
-part-of-spec =
+pub part_of_spec : {M : Type 1} → statement M
+part_of_spec =
     tie.close
     (tie.spec mul-p shared-slice-read-p cast-p returns is-absent-requires returns-2 returns-3)

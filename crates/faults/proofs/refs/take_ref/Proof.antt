@@ -66,8 +66,8 @@ returns c =
 returns-2 : tie.Need-returns-2
 returns-2 c = found_skip c.before.before.before.before.before.requires (cc)
 
-pub take-ref-spec : {M : Type 1} → statement M
-take-ref-spec =
+pub take_ref_spec : {M : Type 1} → statement M
+take_ref_spec =
     tie.close
     (tie.spec
     ref-in-force-requires

@@ -46,8 +46,8 @@ returns c =
     let (within, long, found) = c.before.loop.invariant in
     found_all (omega arith) found
 
-pub take-refs-spec : {M : Type 1} → statement M
-take-refs-spec =
+pub take_refs_spec : {M : Type 1} → statement M
+take_refs_spec =
     tie.close
     (tie.spec
     invariant-loop

@@ -59,8 +59,8 @@ returns-2 c =
 returns-3 : tie.Need-returns-3
 returns-3 c = take_none _ c.before.before.before.before.requires (cc)
 
-pub take-row-spec : {M : Type 1} → statement M
-take-row-spec =
+pub take_row_spec : {M : Type 1} → statement M
+take_row_spec =
     tie.close
     (tie.spec
     edge-in-force-requires

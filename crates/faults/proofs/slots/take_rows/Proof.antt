@@ -41,8 +41,8 @@ returns c =
     let e : c.before.loop.i ≡ (start c.before).args.m = omega arith in
     rw (← e) (search rules)
 
-pub take-rows-spec : {M : Type 1} → statement M
-take-rows-spec =
+pub take_rows_spec : {M : Type 1} → statement M
+take_rows_spec =
     tie.close
     (tie.spec
     invariant-loop

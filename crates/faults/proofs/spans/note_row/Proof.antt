@@ -65,8 +65,8 @@ returns c =
     spans_note _ _ (start row).pre row.before.edge-child.ensures row.edge-label.ensures
     noted.smaller.ensures c.before.instant.ensures c.larger.ensures
 
-pub note-row-spec : {M : Type 1} → statement M
-note-row-spec =
+pub note_row_spec : {M : Type 1} → statement M
+note_row_spec =
     tie.close
     (tie.spec
     edge-child-requires

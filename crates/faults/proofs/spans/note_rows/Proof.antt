@@ -46,8 +46,8 @@ returns c =
     let e : c.before.loop.i ≡ (start c.before).args.m = omega arith in
     rw (← e) (search rules)
 
-pub note-rows-spec : {M : Type 1} → statement M
-note-rows-spec =
+pub note_rows_spec : {M : Type 1} → statement M
+note_rows_spec =
     tie.close
     (tie.spec
     invariant-loop

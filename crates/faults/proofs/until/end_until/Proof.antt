@@ -10,5 +10,5 @@ returns c = largest_at (search rules) (λ s. omega arith) (λ v h f. f (omega ar
 returns-2 : tie.Need-returns-2
 returns-2 c = search rules
 
-pub end-until-spec : {M : Type 1} → statement M
-end-until-spec = tie.close (tie.spec returns returns-2)
+pub end_until_spec : {M : Type 1} → statement M
+end_until_spec = tie.close (tie.spec returns returns-2)

@@ -22,7 +22,7 @@ returns c =
     (until_label a.args.t a.args.label.from _ c.before.before.before.start-until.ensures
     (rw c.before.before.instant.ensures at c.before.end-until.ensures))
 
-pub label-until-spec : {M : Type 1} → statement M
-label-until-spec =
+pub label_until_spec : {M : Type 1} → statement M
+label_until_spec =
     tie.close
     (tie.spec start-until-requires instant-requires end-until-requires smaller-requires returns)

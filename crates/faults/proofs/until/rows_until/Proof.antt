@@ -49,8 +49,8 @@ returns : tie.Need-returns invariant-loop decreases-loop
 returns c =
     let e : c.before.loop.i ≡ c.before.before.before.args.m = omega arith in rw (← e) (search rules)
 
-pub rows-until-spec : {M : Type 1} → statement M
-rows-until-spec =
+pub rows_until_spec : {M : Type 1} → statement M
+rows_until_spec =
     tie.close
     (tie.spec
     invariant-loop

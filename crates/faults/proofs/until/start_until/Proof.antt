@@ -13,5 +13,5 @@ returns c = largest_at (search rules) (λ s. omega arith) (λ v h f. f (omega ar
 returns-2 : tie.Need-returns-2
 returns-2 c = search rules
 
-pub start-until-spec : {M : Type 1} → statement M
-start-until-spec = tie.close (tie.spec sub-result returns returns-2)
+pub start_until_spec : {M : Type 1} → statement M
+start_until_spec = tie.close (tie.spec sub-result returns returns-2)

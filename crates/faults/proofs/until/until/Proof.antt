@@ -17,5 +17,5 @@ returns : tie.Need-returns
 unfolding edge_at ref_at
 returns c = rw c.smaller.ensures (until_both _ _ _ _ _ (search rules) (search rules))
 
-pub until-spec : {M : Type 1} → statement M
-until-spec = tie.close (tie.spec rows-until-requires rows-until-requires-2 smaller-requires returns)
+pub until_spec : {M : Type 1} → statement M
+until_spec = tie.close (tie.spec rows-until-requires rows-until-requires-2 smaller-requires returns)

@@ -57,8 +57,8 @@ returns-3 : tie.Need-returns-3 invariant-loop decreases-loop
 returns-3 c =
     means_false (climbing_ends _ _ c.before.loop.invariant (omega arith) (search rules) c.loop-test.false)
 
-pub comes-back-spec : {M : Type 1} → statement M
-comes-back-spec =
+pub comes_back_spec : {M : Type 1} → statement M
+comes_back_spec =
     tie.close
     (tie.spec
     invariant-loop

@@ -35,8 +35,8 @@ loop-again c =
 returns-2 : tie.Need-returns-2 invariant-loop decreases-loop
 returns-2 c = least_missed _ (λ i h. c.before.loop.invariant.1 i (omega arith))
 
-pub find-back-spec : {M : Type 1} → statement M
-find-back-spec =
+pub find_back_spec : {M : Type 1} → statement M
+find_back_spec =
     tie.close
     (tie.spec
     invariant-loop

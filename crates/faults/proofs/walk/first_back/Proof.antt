@@ -15,5 +15,5 @@ find-back-requires c κs = search rules
 returns-2 : tie.Need-returns-2
 returns-2 c = search rules
 
-pub first-back-spec : {M : Type 1} → statement M
-first-back-spec = tie.close (tie.spec settled-requires returns find-back-requires returns-2)
+pub first_back_spec : {M : Type 1} → statement M
+first_back_spec = tie.close (tie.spec settled-requires returns find-back-requires returns-2)

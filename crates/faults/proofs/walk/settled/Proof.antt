@@ -43,8 +43,8 @@ returns c = means_false (c.before.before.walk.ensures.failed c.if1.false)
 returns-2 : tie.Need-returns-2 invariant-loop decreases-loop
 returns-2 c = means_true (settling_ends _ _ c.before.loop.invariant (omega arith) c.loop-test.false)
 
-pub settled-spec : {M : Type 1} → statement M
-settled-spec =
+pub settled_spec : {M : Type 1} → statement M
+settled_spec =
     tie.close
     (tie.spec
     invariant-loop

@@ -83,8 +83,8 @@ returns-3 c =
     means_true
     (walk_ends _ _ c.before.loop.invariant.walking (ends_here _ _ _ c.loop-test.false) (λ q. absurd (omega arith)))
 
-pub walk-spec : {M : Type 1} → statement M
-walk-spec =
+pub walk_spec : {M : Type 1} → statement M
+walk_spec =
     tie.close
     (tie.spec
     invariant-loop

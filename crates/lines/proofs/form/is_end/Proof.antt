@@ -10,5 +10,5 @@ returns c = search rules
 returns-2 : tie.Need-returns-2
 returns-2 c = sym (inner_end _ _ c.if1.false)
 
-pub is-end-spec : {M : Type 1} → statement M
-is-end-spec = tie.close (tie.spec returns returns-2)
+pub is_end_spec : {M : Type 1} → statement M
+is_end_spec = tie.close (tie.spec returns returns-2)

@@ -10,5 +10,5 @@ returns c = search rules
 returns-2 : tie.Need-returns-2
 returns-2 c = sym (inner_mark _ c.if1.false)
 
-pub mark-after-spec : {M : Type 1} → statement M
-mark-after-spec = tie.close (tie.spec returns returns-2)
+pub mark_after_spec : {M : Type 1} → statement M
+mark_after_spec = tie.close (tie.spec returns returns-2)

@@ -44,8 +44,8 @@ loop-again c = match_turn (loop c.before).loop.inv (omega arith) (omega arith) c
 returns-3 : tie.Need-returns-3 invariant-loop decreases-loop
 returns-3 c = match_all c.before.loop.invariant (omega arith)
 
-pub begun-spec : {M : Type 1} → statement M
-begun-spec =
+pub begun_spec : {M : Type 1} → statement M
+begun_spec =
     tie.close
     (tie.spec
     invariant-loop

@@ -28,6 +28,6 @@ returns c =
 returns-2 : tie.Need-returns-2
 returns-2 c = sym (end_wrong _ (line_not _ _ _ _ _ c.before.begun.ensures c.if1.false))
 
-pub check-line-spec : {M : Type 1} → statement M
-check-line-spec =
+pub check_line_spec : {M : Type 1} → statement M
+check_line_spec =
     tie.close (tie.spec begun-requires add-from check-numbers-requires returns returns-2)

@@ -59,8 +59,8 @@ loop-again c =
 returns-2 : tie.Need-returns-2 invariant-loop decreases-loop
 returns-2 c = lines_checked c.before.loop.invariant c.loop-test.false
 
-pub check-lines-spec : {M : Type 1} → statement M
-check-lines-spec =
+pub check_lines_spec : {M : Type 1} → statement M
+check_lines_spec =
     tie.close
     (tie.spec
     invariant-loop

@@ -80,8 +80,8 @@ loop-again c = turned c
 returns-3 : tie.Need-returns-3 invariant-loop decreases-loop
 returns-3 c = check_done c.before.loop.invariant c.loop-test.false
 
-pub check-numbers-spec : {M : Type 1} → statement M
-check-numbers-spec =
+pub check_numbers_spec : {M : Type 1} → statement M
+check_numbers_spec =
     tie.close
     (tie.spec
     invariant-loop

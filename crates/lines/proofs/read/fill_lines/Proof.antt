@@ -59,8 +59,8 @@ same_length c = c.before.loop.invariant.long
 returns : tie.Need-returns invariant-loop decreases-loop
 returns c = fill_lines_done c.before.loop.invariant c.loop-test.false
 
-pub fill-lines-spec : {M : Type 1} → statement M
-fill-lines-spec =
+pub fill_lines_spec : {M : Type 1} → statement M
+fill_lines_spec =
     tie.close
     (tie.spec
     invariant-loop

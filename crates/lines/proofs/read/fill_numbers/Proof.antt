@@ -81,8 +81,8 @@ same-length-2 c = c.before.loop.invariant.long
 returns-2 : tie.Need-returns-2 invariant-loop decreases-loop
 returns-2 c = fill_done c.before.loop.invariant c.loop-test.false
 
-pub fill-numbers-spec : {M : Type 1} → statement M
-fill-numbers-spec =
+pub fill_numbers_spec : {M : Type 1} → statement M
+fill_numbers_spec =
     tie.close
     (tie.spec
     invariant-loop

@@ -77,8 +77,8 @@ returns-4 c =
     sym (one_ok _ _ _ _ _ _ (key r).before.begun.ensures (key r).if1.left _ r.before.one_form.ensures _ _
     (sym r.read_number.ensures ∙ x.x2.given.1) (sym c.before.byte_at.ensures ∙ c.if2.false))
 
-pub read-line-spec : {M : Type 1} → statement M
-read-line-spec =
+pub read_line_spec : {M : Type 1} → statement M
+read_line_spec =
     tie.close
     (tie.spec
     begun-requires

@@ -84,8 +84,8 @@ returns-6 c =
     sym (number_low _ _ _ _ (inner d).if1.left _ _ (sym d.read-decimal2.ensures ∙ x.x2.given.1)
     c.if4.false)
 
-pub read-number-spec : {M : Type 1} → statement M
-read-number-spec =
+pub read_number_spec : {M : Type 1} → statement M
+read_number_spec =
     tie.close
     (tie.spec
     slice-aggregate-begun

@@ -32,7 +32,7 @@ returns c =
 returns-2 : tie.Need-returns-2
 returns-2 c = sym (one_read _ _ _ _ _ _ _ (sym (line₂ c).read-line.ensures ∙ c.before.x2.given.1))
 
-pub read-one-spec : {M : Type 1} → statement M
-read-one-spec =
+pub read_one_spec : {M : Type 1} → statement M
+read_one_spec =
     tie.close
     (tie.spec read-line-requires enum-known-x refused-at-requires enum-known-x-2 returns returns-2)

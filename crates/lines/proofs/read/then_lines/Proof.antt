@@ -24,7 +24,7 @@ returns-2 : tie.Need-returns-2
 unfolding then_ended
 returns-2 c = rw c.before.before.ended2.given.1 c.check-lines.ensures
 
-pub then-lines-spec : {M : Type 1} → statement M
-then-lines-spec =
+pub then_lines_spec : {M : Type 1} → statement M
+then_lines_spec =
     tie.close
     (tie.spec enum-known-ended enum-known-ended-2 check-lines-requires returns returns-2)

@@ -24,6 +24,6 @@ returns-2 : tie.Need-returns-2
 unfolding then_num
 returns-2 c = rw c.before.before.x2.given.1 c.read_one.ensures
 
-pub then-one-spec : {M : Type 1} → statement M
-then-one-spec =
+pub then_one_spec : {M : Type 1} → statement M
+then_one_spec =
     tie.close (tie.spec enum-known-x enum-known-x-2 read-one-requires returns returns-2)

@@ -62,8 +62,8 @@ loop-again c =
 returns : tie.Need-returns invariant-loop decreases-loop
 returns c = count_lines_done c.before.loop.invariant c.loop-test.false
 
-pub lines-len-spec : {M : Type 1} → statement M
-lines-len-spec =
+pub lines_len_spec : {M : Type 1} → statement M
+lines_len_spec =
     tie.close
     (tie.spec
     invariant-loop

@@ -40,8 +40,8 @@ returns-2 c =
     long _ _ _ (omega arith) (told.before.before.written_as.ensures ∙ ap end_text told.end.given.1)
     c.decimal-width.ensures
 
-pub number-len-spec : {M : Type 1} → statement M
-number-len-spec =
+pub number_len_spec : {M : Type 1} → statement M
+number_len_spec =
     tie.close
     (tie.spec
     written-as-requires

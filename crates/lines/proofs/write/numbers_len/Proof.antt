@@ -56,8 +56,8 @@ loop-again c =
 returns : tie.Need-returns invariant-loop decreases-loop
 returns c = count_done c.before.loop.invariant c.loop-test.false
 
-pub numbers-len-spec : {M : Type 1} → statement M
-numbers-len-spec =
+pub numbers_len_spec : {M : Type 1} → statement M
+numbers_len_spec =
     tie.close
     (tie.spec
     invariant-loop

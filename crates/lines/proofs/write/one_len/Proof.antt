@@ -28,8 +28,8 @@ returns c =
     let l = length-append a.key.now (numbers_text (one_form_of 0 Now) 1 (a.v ∷ [])) in
     record { count = omega arith; small = omega (arith, n.small) }
 
-pub one-len-spec : {M : Type 1} → statement M
-one-len-spec =
+pub one_len_spec : {M : Type 1} → statement M
+one_len_spec =
     tie.close
     (tie.spec
     one-form-requires

@@ -66,8 +66,8 @@ same_length c = c.before.loop.invariant.long
 returns : tie.Need-returns invariant-loop decreases-loop
 returns c = lines_done c.before.loop.invariant c.loop-test.false
 
-pub write-lines-spec : {M : Type 1} → statement M
-write-lines-spec =
+pub write_lines_spec : {M : Type 1} → statement M
+write_lines_spec =
     tie.close
     (tie.spec
     invariant-loop

@@ -50,8 +50,8 @@ same-length-2 c = search rules
 returns-2 : tie.Need-returns-2
 returns-2 c = rw (finite c.before.before.before.before.before) c.before.before.write-decimal.ensures
 
-pub write-number-spec : {M : Type 1} → statement M
-write-number-spec =
+pub write_number_spec : {M : Type 1} → statement M
+write_number_spec =
     tie.close
     (tie.spec
     written-as-requires

@@ -88,8 +88,8 @@ same_length c = c.before.loop.invariant.long
 returns : tie.Need-returns invariant-loop decreases-loop
 returns c = write_done c.before.loop.invariant c.loop-test.false
 
-pub write-numbers-spec : {M : Type 1} → statement M
-write-numbers-spec =
+pub write_numbers_spec : {M : Type 1} → statement M
+write_numbers_spec =
     tie.close
     (tie.spec
     invariant-loop

@@ -45,8 +45,8 @@ returns c =
     let f = c.before.before.before.before in
     put_append (key f).put.ensures (rw f.one_form.ensures at c.before.before.write-numbers.ensures)
 
-pub write-one-spec : {M : Type 1} → statement M
-write-one-spec =
+pub write_one_spec : {M : Type 1} → statement M
+write_one_spec =
     tie.close
     (tie.spec
     put-requires

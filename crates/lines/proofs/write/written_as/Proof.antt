@@ -12,5 +12,5 @@ returns c = number_end _ _ c.before.if1.true c.of.ensures
 returns-2 : tie.Need-returns-2
 returns-2 c = number_finite _ _ c.if1.false
 
-pub written-as-spec : {M : Type 1} → statement M
-written-as-spec = tie.close (tie.spec of-requires returns returns-2)
+pub written_as_spec : {M : Type 1} → statement M
+written_as_spec = tie.close (tie.spec of-requires returns returns-2)

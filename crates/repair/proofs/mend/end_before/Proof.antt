@@ -12,5 +12,5 @@ returns c = search rules
 returns-2 : tie.Need-returns-2
 returns-2 c = end_before _ _ c.if1.false
 
-pub end-before-spec : {M : Type 1} → statement M
-end-before-spec = tie.close (tie.spec sub-result returns returns-2)
+pub end_before_spec : {M : Type 1} → statement M
+end_before_spec = tie.close (tie.spec sub-result returns returns-2)

@@ -57,8 +57,8 @@ returns c =
     let at-end : c.before.loop.i ≡ c.before.before.before.args.m = omega arith in
     rw (← at-end) c.before.loop.invariant.1
 
-pub find-bounds-spec : {M : Type 1} → statement M
-find-bounds-spec =
+pub find_bounds_spec : {M : Type 1} → statement M
+find_bounds_spec =
     tie.close
     (tie.spec
     invariant-loop

@@ -58,8 +58,8 @@ returns c =
     let at-end : c.before.loop.i ≡ c.before.before.before.before.args.m = omega arith in
     rw at-end at c.before.loop.invariant.found
 
-pub find-ends-spec : {M : Type 1} → statement M
-find-ends-spec =
+pub find_ends_spec : {M : Type 1} → statement M
+find_ends_spec =
     tie.close
     (tie.spec
     invariant-loop

@@ -24,8 +24,8 @@ returns c =
     let find = write.before.before.before.before in
     stored_same _ _ _ _ find.find-ends.ensures.ends write.write-ends.ensures
 
-pub mend-spec : {M : Type 1} → statement M
-mend-spec =
+pub mend_spec : {M : Type 1} → statement M
+mend_spec =
     tie.close
     (tie.spec
     slice-aggregate-find-ends

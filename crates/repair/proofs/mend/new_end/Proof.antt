@@ -22,8 +22,8 @@ returns c =
     let label = child.before.edge-label.ensures in
     new_end_found _ _ _ label child.edge-child.ensures found.find-bounds.ensures c.end_before.ensures
 
-pub new-end-spec : {M : Type 1} → statement M
-new-end-spec =
+pub new_end_spec : {M : Type 1} → statement M
+new_end_spec =
     tie.close
     (tie.spec
     edge-label-requires

@@ -14,5 +14,5 @@ returns c =
 returns-2 : tie.Need-returns-2
 returns-2 c = rw (le-ltb c.before.args.s c.before.args.from c.if1.false)
 
-pub next-after-spec : {M : Type 1} → statement M
-next-after-spec = tie.close (tie.spec sooner-requires returns returns-2)
+pub next_after_spec : {M : Type 1} → statement M
+next_after_spec = tie.close (tie.spec sooner-requires returns returns-2)

@@ -13,5 +13,5 @@ returns c = search rules
 returns-2 : tie.Need-returns-2
 returns-2 c = c.smaller.ensures ∙ sym (sooner_min _ _ c.before.if1.false)
 
-pub sooner-spec : {M : Type 1} → statement M
-sooner-spec = tie.close (tie.spec smaller-requires returns returns-2)
+pub sooner_spec : {M : Type 1} → statement M
+sooner_spec = tie.close (tie.spec smaller-requires returns returns-2)

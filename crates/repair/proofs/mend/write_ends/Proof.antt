@@ -85,8 +85,8 @@ returns c =
     let at-end : c.before.loop.i ≡ c.before.before.before.before.args.m = omega arith in
     rw (← at-end) c.before.loop.invariant.done
 
-pub write-ends-spec : {M : Type 1} → statement M
-write-ends-spec =
+pub write_ends_spec : {M : Type 1} → statement M
+write_ends_spec =
     tie.close
     (tie.spec
     invariant-loop

@@ -69,8 +69,8 @@ returns-2 c =
     let found = tied_found _ _ _ pair.loop-test.true (sym c.before.same_start.ensures ∙ c.if1.true) in
     search_found _ row.rows-test.true row.before.rows.invariant.1 found
 
-pub first-tie-spec : {M : Type 1} → statement M
-first-tie-spec =
+pub first_tie_spec : {M : Type 1} → statement M
+first_tie_spec =
     tie.close
     (tie.spec
     invariant-loop

@@ -22,8 +22,8 @@ returns c =
     let b = label_from _ _ _ second.edge-label2.ensures in
     cc
 
-pub same-start-spec : {M : Type 1} → statement M
-same-start-spec =
+pub same_start_spec : {M : Type 1} → statement M
+same_start_spec =
     tie.close
     (tie.spec
     edge-child-requires

@@ -60,8 +60,8 @@ returns c =
     let e : c.before.loop.c ≡ a.n = omega arith in
     c.before.loop.invariant.1 ∙ ap (λ x. 1 + count (λ y. ltb (get_or a.parents.now y 0) a.n) x) e
 
-pub count-rows-spec : {M : Type 1} → statement M
-count-rows-spec =
+pub count_rows_spec : {M : Type 1} → statement M
+count_rows_spec =
     tie.close
     (tie.spec
     invariant-loop

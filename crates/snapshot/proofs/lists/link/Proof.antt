@@ -101,8 +101,8 @@ returns c =
     let l = c.before.loop in
     ap (λ x. link_from a.parents.now a.n x (links l.first l.next)) (sym e) ∙ l.invariant.same
 
-pub link-spec : {M : Type 1} → statement M
-link-spec =
+pub link_spec : {M : Type 1} → statement M
+link_spec =
     tie.close
     (tie.spec
     invariant-loop

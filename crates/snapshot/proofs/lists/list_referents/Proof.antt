@@ -116,8 +116,8 @@ returns c =
     let e : c.before.loop.i ≡ (entry c.before).args.k = omega arith in
     rw e at c.before.loop.invariant.listed
 
-pub list-referents-spec : {M : Type 1} → statement M
-list-referents-spec =
+pub list_referents_spec : {M : Type 1} → statement M
+list_referents_spec =
     tie.close
     (tie.spec
     invariant-loop

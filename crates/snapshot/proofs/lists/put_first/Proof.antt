@@ -27,6 +27,6 @@ returns-2 : tie.Need-returns-2
 unfolding put_first_of
 returns-2 c = rw (ne_eqb _ _ c.if1.false)
 
-pub put-first-spec : {M : Type 1} → statement M
-put-first-spec =
+pub put_first_spec : {M : Type 1} → statement M
+put_first_spec =
     tie.close (tie.spec mul-if1 slice-read-if1 mul-l slice-write-l same_length returns returns-2)

@@ -174,8 +174,8 @@ module _ (t : ℕ) where
       let e = run_stop s.args.next.now s.args.count s.args.count l.loop.c past in
       part_end s.args.out.now (rw e at l.loop.invariant) (put l).put-row.ensures
 
-pub +walk-spec : {M : Type 1} → statement M
-+walk-spec = close μ-walk λ t. walk-lts.spec (calls t)
+pub +walk_spec : {M : Type 1} → statement M
++walk_spec = close μ-walk λ t. walk-lts.spec (calls t)
     (walk_at t)
     walk.Post
     walk-Inv-loop

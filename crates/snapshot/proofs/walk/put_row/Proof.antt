@@ -28,6 +28,6 @@ same_length c = search rules
 returns : tie.Need-returns
 returns c = three c.args.out.now _ _ _ c.requires
 
-pub put-row-spec : {M : Type 1} → statement M
-put-row-spec =
+pub put_row_spec : {M : Type 1} → statement M
+put_row_spec =
     tie.close (tie.spec slice-write-out slice-write-out-2 slice-write-out-3 same_length returns)

@@ -29,7 +29,7 @@ returns-2 c = let d = c.before in
     simp (← d.before.before.judge-sizes.ensures, ← d.before.refuses.ensures, d.if1.false)
     c.judge-rows.ensures
 
-pub judge-history-spec : {M : Type 1} → statement M
-judge-history-spec =
+pub judge_history_spec : {M : Type 1} → statement M
+judge_history_spec =
     tie.close
     (tie.spec judge-sizes-requires refuses-requires returns judge-rows-requires returns-2)

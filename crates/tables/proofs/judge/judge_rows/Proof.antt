@@ -80,8 +80,8 @@ returns-5 c =
       le-ltb _ _ c.if4.false,
     )
 
-pub judge-rows-spec : {M : Type 1} → statement M
-judge-rows-spec =
+pub judge_rows_spec : {M : Type 1} → statement M
+judge_rows_spec =
     tie.close
     (tie.spec
     returns

@@ -10,5 +10,5 @@ returns : tie.Need-returns
 unfolding edge_at
 returns c = c.Cell-at.ensures
 
-pub edge-child-spec : {M : Type 1} → statement M
-edge-child-spec = tie.close (tie.spec cell-at-requires returns)
+pub edge_child_spec : {M : Type 1} → statement M
+edge_child_spec = tie.close (tie.spec cell-at-requires returns)

@@ -13,5 +13,5 @@ in-force-requires c κs = search rules
 returns : tie.Need-returns
 returns c = c.in_force.ensures ∙ label_during _ _ _ _ c.before.edge-label.ensures
 
-pub edge-in-force-spec : {M : Type 1} → statement M
-edge-in-force-spec = tie.close (tie.spec edge-label-requires in-force-requires returns)
+pub edge_in_force_spec : {M : Type 1} → statement M
+edge_in_force_spec = tie.close (tie.spec edge-label-requires in-force-requires returns)

@@ -10,5 +10,5 @@ returns : tie.Need-returns
 unfolding edge_at
 returns c = c.label_at.ensures
 
-pub edge-label-spec : {M : Type 1} → statement M
-edge-label-spec = tie.close (tie.spec label-at-requires returns)
+pub edge_label_spec : {M : Type 1} → statement M
+edge_label_spec = tie.close (tie.spec label-at-requires returns)

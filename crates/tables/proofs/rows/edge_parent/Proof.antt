@@ -10,5 +10,5 @@ returns : tie.Need-returns
 unfolding edge_at
 returns c = c.Cell-at.ensures
 
-pub edge-parent-spec : {M : Type 1} → statement M
-edge-parent-spec = tie.close (tie.spec cell-at-requires returns)
+pub edge_parent_spec : {M : Type 1} → statement M
+edge_parent_spec = tie.close (tie.spec cell-at-requires returns)

@@ -20,8 +20,8 @@ of-requires c κs = search rules
 returns : tie.Need-returns
 returns c = cc
 
-pub label-at-spec : {M : Type 1} → statement M
-label-at-spec =
+pub label_at_spec : {M : Type 1} → statement M
+label_at_spec =
     tie.close
     (tie.spec
     sub-cell-at

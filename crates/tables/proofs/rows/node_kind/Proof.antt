@@ -10,5 +10,5 @@ returns : tie.Need-returns
 unfolding node_at
 returns c = c.Cell-at.ensures
 
-pub node-kind-spec : {M : Type 1} → statement M
-node-kind-spec = tie.close (tie.spec cell-at-requires returns)
+pub node_kind_spec : {M : Type 1} → statement M
+node_kind_spec = tie.close (tie.spec cell-at-requires returns)

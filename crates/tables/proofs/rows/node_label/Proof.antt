@@ -10,5 +10,5 @@ returns : tie.Need-returns
 unfolding node_at
 returns c = c.Cell-at.ensures
 
-pub node-label-spec : {M : Type 1} → statement M
-node-label-spec = tie.close (tie.spec cell-at-requires returns)
+pub node_label_spec : {M : Type 1} → statement M
+node_label_spec = tie.close (tie.spec cell-at-requires returns)

@@ -10,5 +10,5 @@ returns : tie.Need-returns
 unfolding node_at
 returns c = c.Cell-at.ensures
 
-pub node-value-spec : {M : Type 1} → statement M
-node-value-spec = tie.close (tie.spec cell-at-requires returns)
+pub node_value_spec : {M : Type 1} → statement M
+node_value_spec = tie.close (tie.spec cell-at-requires returns)

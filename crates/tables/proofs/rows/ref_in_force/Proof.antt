@@ -13,5 +13,5 @@ in-force-requires c κs = search rules
 returns : tie.Need-returns
 returns c = c.in_force.ensures ∙ label_during _ _ _ _ c.before.ref-label.ensures
 
-pub ref-in-force-spec : {M : Type 1} → statement M
-ref-in-force-spec = tie.close (tie.spec ref-label-requires in-force-requires returns)
+pub ref_in_force_spec : {M : Type 1} → statement M
+ref_in_force_spec = tie.close (tie.spec ref-label-requires in-force-requires returns)

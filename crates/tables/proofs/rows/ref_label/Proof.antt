@@ -10,5 +10,5 @@ returns : tie.Need-returns
 unfolding ref_at
 returns c = c.label_at.ensures
 
-pub ref-label-spec : {M : Type 1} → statement M
-ref-label-spec = tie.close (tie.spec label-at-requires returns)
+pub ref_label_spec : {M : Type 1} → statement M
+ref_label_spec = tie.close (tie.spec label-at-requires returns)

@@ -23,7 +23,7 @@ returns-2 : tie.Need-returns-2
 unfolding ref_at
 returns-2 c = cc
 
-pub ref-side-spec : {M : Type 1} → statement M
-ref-side-spec =
+pub ref_side_spec : {M : Type 1} → statement M
+ref_side_spec =
     tie.close
     (tie.spec enum_told cell-at-requires enum-told-2 cell-at-requires-2 returns returns-2)

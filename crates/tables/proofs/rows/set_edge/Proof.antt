@@ -61,8 +61,8 @@ returns : tie.Need-returns
 unfolding set_row
 returns c = stores c.args.edges.now (c.args.i * edge_width) _ _ _ _
 
-pub set-edge-spec : {M : Type 1} → statement M
-set-edge-spec =
+pub set_edge_spec : {M : Type 1} → statement M
+set_edge_spec =
     tie.close
     (tie.spec
     mul-row

@@ -25,8 +25,8 @@ returns : tie.Need-returns
 unfolding set_end
 returns c = rw c.instant.ensures
 
-pub set-edge-end-spec : {M : Type 1} → statement M
-set-edge-end-spec =
+pub set_edge_end_spec : {M : Type 1} → statement M
+set_edge_end_spec =
     tie.close
     (tie.spec
     instant-requires

@@ -19,8 +19,8 @@ returns : tie.Need-returns
 unfolding bad_node_of
 returns c = cc
 
-pub bad-node-spec : {M : Type 1} → statement M
-bad-node-spec =
+pub bad_node_spec : {M : Type 1} → statement M
+bad_node_spec =
     tie.close
     (tie.spec
     node-kind-requires

@@ -46,8 +46,8 @@ returns-3 c = let kinds = c.before.before in
     kinds.before.node-kind.ensures kinds.node-kind2.ensures c.before.may-join.ensures
     row.label_at.ensures c.label-rule.ensures
 
-pub bad-row-spec : {M : Type 1} → statement M
-bad-row-spec =
+pub bad_row_spec : {M : Type 1} → statement M
+bad_row_spec =
     tie.close
     (tie.spec
     cell-at-requires

@@ -42,8 +42,8 @@ loop-again c = (
 returns-2 : tie.Need-returns-2 invariant-loop decreases-loop
 returns-2 c = search_missed _ c.loop-test.false c.before.loop.invariant.1
 
-pub first-bad-node-spec : {M : Type 1} → statement M
-first-bad-node-spec =
+pub first_bad_node_spec : {M : Type 1} → statement M
+first_bad_node_spec =
     tie.close
     (tie.spec
     invariant-loop

@@ -8,5 +8,5 @@ instant-requires c κs = search rules
 returns : tie.Need-returns
 returns c = cc
 
-pub label-rule-spec : {M : Type 1} → statement M
-label-rule-spec = tie.close (tie.spec instant-requires returns)
+pub label_rule_spec : {M : Type 1} → statement M
+label_rule_spec = tie.close (tie.spec instant-requires returns)

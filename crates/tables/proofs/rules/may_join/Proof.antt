@@ -14,5 +14,5 @@ returns c = cc
 returns-2 : tie.Need-returns-2
 returns-2 c = cc
 
-pub may-join-spec : {M : Type 1} → statement M
-may-join-spec = tie.close (tie.spec may-refer-requires may-hold-requires returns returns-2)
+pub may_join_spec : {M : Type 1} → statement M
+may_join_spec = tie.close (tie.spec may-refer-requires may-hold-requires returns returns-2)

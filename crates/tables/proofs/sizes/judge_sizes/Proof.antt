@@ -60,8 +60,8 @@ returns-4 c =
       not-false c.before.size-rule3.result c.if3.false,
     )
 
-pub judge-sizes-spec : {M : Type 1} → statement M
-judge-sizes-spec =
+pub judge_sizes_spec : {M : Type 1} → statement M
+judge_sizes_spec =
     tie.close
     (tie.spec
     size-rule-requires

@@ -13,5 +13,5 @@ returns : tie.Need-returns
 unfolding size_rule_of
 returns c = search rules
 
-pub size-rule-spec : {M : Type 1} → statement M
-size-rule-spec = tie.close (tie.spec rem-result div-result returns)
+pub size_rule_spec : {M : Type 1} → statement M
+size_rule_spec = tie.close (tie.spec rem-result div-result returns)

@@ -55,8 +55,8 @@ returns c =
     let n = nodes m.before.before in
     rows_held (start (entry n)).requires n.fill-lines.ensures m.fill-lines2.ensures k.fill-lines3.ensures
 
-pub fill-rows-spec : {M : Type 1} → statement M
-fill-rows-spec =
+pub fill_rows_spec : {M : Type 1} → statement M
+fill_rows_spec =
     tie.close
     (tie.spec
     slice-aggregate-fill-lines

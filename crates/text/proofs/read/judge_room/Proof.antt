@@ -42,8 +42,8 @@ returns-4 c =
     let e = c.before.before in
     simp (le-ltb _ _ e.before.before.if1.false, le-ltb _ _ e.if2.false, le-ltb _ _ c.if3.false)
 
-pub judge-room-spec : {M : Type 1} → statement M
-judge-room-spec =
+pub judge_room_spec : {M : Type 1} → statement M
+judge_room_spec =
     tie.close
     (tie.spec
     cast-if1

@@ -115,8 +115,8 @@ returns-2 c =
     m.then-one3.ensures k.then-one4.ensures x.k2.given.1
     v.value.ensures c.before.value2.ensures c.value3.ensures
 
-pub read-head-spec : {M : Type 1} → statement M
-read-head-spec =
+pub read_head_spec : {M : Type 1} → statement M
+read_head_spec =
     tie.close
     (tie.spec
     slice-aggregate-read-one

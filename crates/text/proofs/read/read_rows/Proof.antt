@@ -99,8 +99,8 @@ returns-3 c =
     room_taken (right j.before) j.judge-room.ensures (sym i.before.refuses.ensures ∙ i.if1.left)
     (filled c).fill-rows.ensures
 
-pub read-rows-spec : {M : Type 1} → statement M
-read-rows-spec =
+pub read_rows_spec : {M : Type 1} → statement M
+read_rows_spec =
     tie.close
     (tie.spec
     scan-rows-requires

@@ -59,8 +59,8 @@ same-length-3 c = search rules
 returns-2 : tie.Need-returns-2
 returns-2 c = search rules
 
-pub read-text-spec : {M : Type 1} → statement M
-read-text-spec =
+pub read_text_spec : {M : Type 1} → statement M
+read_text_spec =
     tie.close
     (tie.spec
     read-head-requires

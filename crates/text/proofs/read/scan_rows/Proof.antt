@@ -44,8 +44,8 @@ returns c =
     scan_rows_lem _ _ _ (nodes m).check-lines.ensures m.then_lines.ensures c.before.then-lines2.ensures
     c.then-end.ensures
 
-pub scan-rows-spec : {M : Type 1} → statement M
-scan-rows-spec =
+pub scan_rows_spec : {M : Type 1} → statement M
+scan_rows_spec =
     tie.close
     (tie.spec
     slice-aggregate-check-lines

@@ -38,6 +38,6 @@ returns-3 c =
     let d = c.before.before in
     rw d.ended2.given.1 (more_left d.before.before.args.text.now _ c.if1.false)
 
-pub then-end-spec : {M : Type 1} → statement M
-then-end-spec =
+pub then_end_spec : {M : Type 1} → statement M
+then_end_spec =
     tie.close (tie.spec enum-known-ended enum-known-ended-2 returns returns-2 returns-3)

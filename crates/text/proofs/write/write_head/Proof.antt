@@ -58,8 +58,8 @@ returns c =
     head_put _ (line₁ b).write-one.ensures b.write-one2.ensures n.write-one3.ensures
     m.write-one4.ensures k.write-one5.ensures
 
-pub write-head-spec : {M : Type 1} → statement M
-write-head-spec =
+pub write_head_spec : {M : Type 1} → statement M
+write_head_spec =
     tie.close
     (tie.spec
     slice-aggregate-write-one

@@ -37,8 +37,8 @@ returns c =
     let m = edges k in
     rows_put _ _ _ (nodes m).write-lines.ensures m.write-lines2.ensures k.write-lines3.ensures
 
-pub write-rows-spec : {M : Type 1} → statement M
-write-rows-spec =
+pub write_rows_spec : {M : Type 1} → statement M
+write_rows_spec =
     tie.close
     (tie.spec
     slice-aggregate-write-lines

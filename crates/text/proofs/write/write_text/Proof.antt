@@ -93,8 +93,8 @@ returns-3 c =
     b.before.head-len.ensures b.rows-len.ensures h.before.before.if2.left
     h.write-head.ensures w.write-rows.ensures
 
-pub write-text-spec : {M : Type 1} → statement M
-write-text-spec =
+pub write_text_spec : {M : Type 1} → statement M
+write_text_spec =
     tie.close
     (tie.spec
     judge-sizes-requires

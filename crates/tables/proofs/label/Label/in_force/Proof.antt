@@ -8,5 +8,5 @@ instant-requires c κs = search rules
 returns : tie.Need-returns
 returns c = cc
 
-pub in-force-spec : {M : Type 1} → statement M
-in-force-spec = tie.close (tie.spec instant-requires returns)
+pub in_force_spec : {M : Type 1} → statement M
+in_force_spec = tie.close (tie.spec instant-requires returns)
