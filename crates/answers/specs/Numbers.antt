@@ -1,6 +1,5 @@
 -- The numbers of documents 01 and 02, by cases on the answer: the only definition that has them. Assumes nothing.
 use Rattle.std.specs.Prelude.{Bool, not, ℕ, eqb}
-use Rattle.answers.specs.declared.Fault.{Fault}
 use Rattle.answers.specs.declared.Kind.{Kind}
 use Rattle.answers.specs.declared.Kind.TheVariants.{Overlap, Gap, Outside, Cycle, Late, Dangling, Double}
 use Rattle.answers.specs.declared.Answer.{Answer}

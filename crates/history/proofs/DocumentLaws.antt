@@ -10,7 +10,7 @@ use Rattle.answers.specs.declared.Kind.TheVariants as kind
 use Rattle.answers.specs.Numbers.{code_of}
 use Rattle.answers.specs.Refusals.{fault}
 use Rattle.tables.specs.Tables.{Now}
-use Rattle.history.specs.Faults.{History, Into, Overlap, Here, HoldsAt, Holds}
+use Rattle.history.specs.Faults.{History, Into, Here, HoldsAt, Holds}
 use Rattle.history.specs.Document.{Lifespan, InLifespan, RootedTree, Document}
 use Rattle.history.specs.Ruled.{Ruled}
 use Rattle.history.proofs.Tree.{Tree, same_row, up_row}

@@ -5,7 +5,7 @@
 --   rows_say      2 to 5: the start, the node rows, the containment rows, the reference rows
 --   history_says  1 to 5
 -- Assumes nothing.
-use Rattle.std.specs.Prelude.{◌≢◌, Bool, true, false, not, ℕ, ◌<◌, ltb, eqb}
+use Rattle.std.specs.Prelude.{Bool, true, false, not, ℕ, ltb, eqb}
 use Rattle.ground.specs.Searches.{least}
 use Rattle.answers.specs.declared.Answer.{Answer}
 use Rattle.answers.specs.declared.Answer.TheVariants.{Size, Start, Node, Edge, Reference}

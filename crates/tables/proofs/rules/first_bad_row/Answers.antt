@@ -1,4 +1,3 @@
-use Prim.Native.Nat.{◌-◌}
 use mathlib.Core.Path.{◌∙◌, sym}
 use Rattle.ground.proofs.LeastLaws.{search_found, search_missed}
 use Rattle.tables.proofs.rules.first_bad_row.Goals as goal
