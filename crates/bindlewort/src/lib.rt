@@ -1,5 +1,6 @@
 // The public calls. None has a `requires`, and each promise determines the answer and every number and byte then held
-// by what was lent, on refusals too (proofs/Demands.antt). What is lent by `&` cannot change.
+// by what was lent, on refusals too (proofs/Demands.antt). What is lent by `&` cannot change. C calls them by the
+// exports of bindlewort_c.
 #![tactic(auto)]
 
 ghost use Rattle.std.specs.Prelude.{[]};
@@ -43,8 +44,7 @@ fn tell(a: Answer) -> Answered
 }
 
 // Check: codes 1 to 5, else the earliest instant with a fault, there the smallest code, and there the smallest place.
-#[unsafe(no_mangle)]
-pub extern "C" fn bw_check(start: u32, nodes: &[u32], edges: &[u32], refs: &[u32]) -> Answered
+pub fn bw_check(start: u32, nodes: &[u32], edges: &[u32], refs: &[u32]) -> Answered
     ensures { Given Told
         (Checked (slices start nodes.now edges.now refs.now)) result }
 {
@@ -55,8 +55,7 @@ pub extern "C" fn bw_check(start: u32, nodes: &[u32], edges: &[u32], refs: &[u32
 }
 
 // Snapshot: the root and what it contains at t, a row for each node.
-#[unsafe(no_mangle)]
-pub extern "C" fn bw_snapshot(
+pub fn bw_snapshot(
     start: u32,
     nodes: &[u32],
     edges: &[u32],
@@ -75,8 +74,7 @@ pub extern "C" fn bw_snapshot(
 }
 
 // Repair: each child gets, from its first start to its last end, the parent of the row that started last.
-#[unsafe(no_mangle)]
-pub extern "C" fn bw_repair(start: u32, nodes: &[u32], edges: &mut [u32]) -> Answered
+pub fn bw_repair(start: u32, nodes: &[u32], edges: &mut [u32]) -> Answered
     ensures { Leaves (Repaired (slices start nodes.now edges.old [])) result
         edges.new }
 {
@@ -86,8 +84,7 @@ pub extern "C" fn bw_repair(start: u32, nodes: &[u32], edges: &mut [u32]) -> Ans
 }
 
 // Write text: the text of the tables, whatever their numbers.
-#[unsafe(no_mangle)]
-pub extern "C" fn bw_write_text(
+pub fn bw_write_text(
     start: u32,
     nodes: &[u32],
     edges: &[u32],
@@ -105,13 +102,7 @@ pub extern "C" fn bw_write_text(
 }
 
 // Read text: the tables that the text holds, at the front of those that are lent.
-#[unsafe(no_mangle)]
-pub extern "C" fn bw_read_text(
-    text: &[u8],
-    nodes: &mut [u32],
-    edges: &mut [u32],
-    refs: &mut [u32],
-) -> Reading
+pub fn bw_read_text(text: &[u8], nodes: &mut [u32], edges: &mut [u32], refs: &mut [u32]) -> Reading
     ensures { Reads text.now nodes.old edges.old refs.old result
         nodes.new edges.new refs.new }
 {
