@@ -2,7 +2,7 @@
 // and leaves with what the document says. Prints a line for each case, and how many are as stated.
 #![tactic(auto)]
 
-ghost use Rattle.std.specs.Prelude.{◌≡◌, true, cond, ◌↔◌, [], ℕ, ◌*◌, ◌≤◌, ◌<◌, length, get_or, take, replicate};
+ghost use Rattle.std.specs.Prelude.{◌≡◌, true, cond, IfOk, ◌↔◌, [], ℕ, ◌*◌, ◌≤◌, ◌<◌, length, get_or, take, replicate};
 ghost use Rattle.verdict.specs.Checked.{Checked};
 ghost use Rattle.snapshot.specs.Snapshot.{Snapshot};
 ghost use Rattle.repair.specs.Repaired.{Repaired};
@@ -10,8 +10,8 @@ ghost use Rattle.bindlewort.specs.Given.{slices, Told, Given};
 ghost use Rattle.both_sides.specs.Cases.{Counted, OfForm, CanWrite, elements};
 
 use bindlewort::{Answered, bw_check, bw_read_text, bw_repair, bw_snapshot, bw_write_text};
-use check::same as same_bytes;
-use libc::STDOUT_FILENO;
+use std::io;
+use std::io::{Print, Stdout};
 use tables::rows::{EDGE_WIDTH, NODE_WIDTH, REF_WIDTH};
 use tables::sizes::{MOST_EDGES, MOST_NODES, MOST_REFS};
 
@@ -70,37 +70,43 @@ fn same(a: Answered, b: Answered, left: &[u32], right: &[u32]) -> bool
     }
 }
 
-fn print_number(v: u32) {
-    io::write_all(STDOUT_FILENO, b" ");
-    io::print_decimal(STDOUT_FILENO, v as u64);
+fn print_number(to: Stdout, v: u32) -> io::Result<()> {
+    print!(to; " {v}")
 }
 
 // Prints an answer and whether the case is as stated. Counts it where it is.
-fn report(a: Answered, agrees: bool) -> u32
-    ensures { result ≡ cond agrees 1 0 }
+fn report(to: Stdout, a: Answered, agrees: bool) -> io::Result<u32>
+    ensures { IfOk result (λ n. n ≡ cond agrees 1 0) }
 {
-    io::write_all(STDOUT_FILENO, b":");
-    print_number(a.code);
-    print_number(a.instant);
-    print_number(a.place);
+    to.write_all(b":")?;
+    print_number(to, a.code)?;
+    print_number(to, a.instant)?;
+    print_number(to, a.place)?;
     if agrees {
-        io::write_all(STDOUT_FILENO, b" as stated\n");
-        return 1;
+        to.write_all(b" as stated\n")?;
+        return Ok(1);
     }
-    io::write_all(STDOUT_FILENO, b" NOT as stated\n");
-    0
+    to.write_all(b" NOT as stated\n")?;
+    Ok(0)
 }
 
-fn check_is(case: &[u8], nodes: &[u32], edges: &[u32], stated: Answered) -> u32
-    ensures { Counted (Given Told (Checked (slices 0 nodes.now edges.now [])) stated) result }
+fn check_is(
+    to: Stdout,
+    case: &[u8],
+    nodes: &[u32],
+    edges: &[u32],
+    stated: Answered,
+) -> io::Result<u32>
+    ensures { IfOk result (Counted (Given Told (Checked (slices 0 nodes.now edges.now [])) stated)) }
 {
-    io::write_all(STDOUT_FILENO, case);
-    io::write_all(STDOUT_FILENO, b", check");
+    to.write_all(case)?;
+    to.write_all(b", check")?;
     let a = bw_check(0, nodes, edges, &[]);
-    report(a, same_answer(a, stated))
+    report(to, a, same_answer(a, stated))
 }
 
 fn snapshot_is(
+    to: Stdout,
     case: &[u8],
     start: u32,
     nodes: &[u32],
@@ -109,27 +115,34 @@ fn snapshot_is(
     t: u32,
     stated: Answered,
     left: &[u32],
-) -> u32
-    ensures { Counted (Given Told (λ a. Snapshot
+) -> io::Result<u32>
+    ensures { IfOk result (Counted (Given Told (λ a. Snapshot
         (slices start nodes.now edges.now refs.now)
-        t (replicate 12 7) a left.now) stated) result }
+        t (replicate 12 7) a left.now) stated)) }
 {
-    io::write_all(STDOUT_FILENO, case);
-    io::write_all(STDOUT_FILENO, b", snapshot at");
-    print_number(t);
+    to.write_all(case)?;
+    to.write_all(b", snapshot at")?;
+    print_number(to, t)?;
     let mut out = [U; 12];
     let a = bw_snapshot(start, nodes, edges, refs, t, &mut out);
-    report(a, same(a, stated, &out, left))
+    report(to, a, same(a, stated, &out, left))
 }
 
-fn repair_is(case: &[u8], nodes: &[u32], edges: &mut [u32], stated: Answered, left: &[u32]) -> u32
-    ensures { Counted (Given Told (λ a. Repaired (slices 0 nodes.now edges.old []) a
-        left.now) stated) result }
+fn repair_is(
+    to: Stdout,
+    case: &[u8],
+    nodes: &[u32],
+    edges: &mut [u32],
+    stated: Answered,
+    left: &[u32],
+) -> io::Result<u32>
+    ensures { IfOk result (Counted (Given Told (λ a. Repaired (slices 0 nodes.now edges.old []) a
+        left.now) stated)) }
 {
-    io::write_all(STDOUT_FILENO, case);
-    io::write_all(STDOUT_FILENO, b", repair");
+    to.write_all(case)?;
+    to.write_all(b", repair")?;
     let a = bw_repair(0, nodes, edges);
-    report(a, same(a, stated, edges, left))
+    report(to, a, same(a, stated, edges, left))
 }
 
 // So many rows at the front of a table.
@@ -150,9 +163,9 @@ fn same_rows(table: &[u32], count: u32, width: usize, rows: &[u32]) -> bool
 
 // Reads a text, writes again what was read, and compares: a text is counted exactly if it is of the form. The tables
 // have room for all that can be read.
-fn read_is_written(text: &[u8], out: &mut [u8]) -> u32
+fn read_is_written(to: Stdout, text: &[u8], out: &mut [u8]) -> io::Result<u32>
     requires { length text.now ≤ length out.old }
-    ensures { Counted (OfForm text.now) result }
+    ensures { IfOk result (Counted (OfForm text.now)) }
 {
     let mut nodes = [0u32; MOST_NODES * NODE_WIDTH];
     let mut edges = [0u32; MOST_EDGES * EDGE_WIDTH];
@@ -160,63 +173,78 @@ fn read_is_written(text: &[u8], out: &mut [u8]) -> u32
     let x = bw_read_text(text, &mut nodes, &mut edges, &mut refs);
     let said = x.answer;
     if said.code != 0 {
-        return report(said, false);
+        return report(to, said, false);
     }
     let a = first_rows(&nodes, x.nodes, NODE_WIDTH);
     let b = first_rows(&edges, x.edges, EDGE_WIDTH);
     let c = first_rows(&refs, x.refs, REF_WIDTH);
     let w = bw_write_text(x.start, a, b, c, out);
     let n = w.place as usize;
-    report(w, same_bytes(&out[..n], text))
+    report(to, w, &out[..n] == text)
 }
 
 // Writes tables as text, reads that back, and compares: tables are counted exactly if they are within the sizes and the
 // output has room for their text.
-fn written_is_read(start: u32, nodes: &[u32], edges: &[u32], refs: &[u32], out: &mut [u8]) -> u32
-    ensures { Counted (CanWrite (slices start nodes.now edges.now refs.now)
-        out.old) result }
+fn written_is_read(
+    to: Stdout,
+    start: u32,
+    nodes: &[u32],
+    edges: &[u32],
+    refs: &[u32],
+    out: &mut [u8],
+) -> io::Result<u32>
+    ensures { IfOk result (Counted (CanWrite (slices start nodes.now edges.now refs.now)
+        out.old)) }
 {
     let mut n = [0u32; MOST_NODES * NODE_WIDTH];
     let mut e = [0u32; MOST_EDGES * EDGE_WIDTH];
     let mut f = [0u32; MOST_REFS * REF_WIDTH];
     let w = bw_write_text(start, nodes, edges, refs, out);
     if w.code != 0 {
-        return report(w, false);
+        return report(to, w, false);
     }
     let k = w.place as usize;
     let x = bw_read_text(&out[..k], &mut n, &mut e, &mut f);
     let back = same_rows(&n, x.nodes, NODE_WIDTH, nodes)
         & same_rows(&e, x.edges, EDGE_WIDTH, edges)
         & same_rows(&f, x.refs, REF_WIDTH, refs);
-    report(x.answer, (x.start == start) & back)
+    report(to, x.answer, (x.start == start) & back)
 }
 
 // "At 100: 16. At 121: the same three."
-fn snapshots_of_h(nodes: &[u32], edges: &[u32], refs: &[u32]) -> u32
-    ensures { result ≤ 2 }
+fn snapshots_of_h(to: Stdout, nodes: &[u32], edges: &[u32], refs: &[u32]) -> io::Result<u32>
+    ensures { IfOk result (λ n. n ≤ 2) }
 {
     let dangling = answered(16, 100, 0);
     let shown = answered(0, 121, 3);
     let same_three = [0, N, N, 1, 0, N, 2, 0, N, U, U, U];
-    snapshot_is(b"H", 0, nodes, edges, refs, 100, dangling, &[U; 12])
-        + snapshot_is(b"H", 0, nodes, edges, refs, 121, shown, &same_three)
+    let before = snapshot_is(to, b"H", 0, nodes, edges, refs, 100, dangling, &[U; 12])?;
+    let after = snapshot_is(to, b"H", 0, nodes, edges, refs, 121, shown, &same_three)?;
+    Ok(before + after)
 }
 
 // [demand 2] "Tables written as text read back as the same tables, and accepted text written again is the same text."
-fn texts_of_h(text: &[u8], nodes: &[u32], edges: &[u32], refs: &[u32]) -> u32
+fn texts_of_h(
+    to: Stdout,
+    text: &[u8],
+    nodes: &[u32],
+    edges: &[u32],
+    refs: &[u32],
+) -> io::Result<u32>
     requires { length text.now ≤ 512 }
-    ensures { result ≤ 2 }
+    ensures { IfOk result (λ n. n ≤ 2) }
 {
     let mut out = [0u8; 512];
-    io::write_all(STDOUT_FILENO, b"H, read and written again");
-    let again = read_is_written(text, &mut out);
-    io::write_all(STDOUT_FILENO, b"H, written and read back");
-    again + written_is_read(0, nodes, edges, refs, &mut out)
+    to.write_all(b"H, read and written again")?;
+    let again = read_is_written(to, text, &mut out)?;
+    to.write_all(b"H, written and read back")?;
+    let back = written_is_read(to, 0, nodes, edges, refs, &mut out)?;
+    Ok(again + back)
 }
 
 // The cases of H, whose tables are read from the document's text. "Repair of H: place 0."
-fn of_h() -> u32
-    ensures { result ≤ 5 }
+fn of_h(to: Stdout) -> io::Result<u32>
+    ensures { IfOk result (λ n. n ≤ 5) }
 {
     let text = b"edition=1\nstart=0\nnodes=6\nedges=6\nrefs=1\n\
         node=0,1,0\nnode=1,2,0\nnode=1,2,0\nnode=1,3,0\nnode=1,4,0\nnode=4,5,0\n\
@@ -228,20 +256,22 @@ fn of_h() -> u32
     bw_read_text(text, &mut nodes, &mut edges, &mut refs);
     let mut mended = edges;
     let unchanged = answered(0, 0, 0);
-    snapshots_of_h(&nodes, &edges, &refs)
-        + repair_is(b"H", &nodes, &mut mended, unchanged, &edges)
-        + texts_of_h(text, &nodes, &edges, &refs)
+    let snapshots = snapshots_of_h(to, &nodes, &edges, &refs)?;
+    let repair = repair_is(to, b"H", &nodes, &mut mended, unchanged, &edges)?;
+    let texts = texts_of_h(to, text, &nodes, &edges, &refs)?;
+    Ok(snapshots + repair + texts)
 }
 
 // "Root alone with start 7, snapshot at 6: 23. At 7: 0, one row."
-fn of_the_root_alone() -> u32
-    ensures { result ≤ 2 }
+fn of_the_root_alone(to: Stdout) -> io::Result<u32>
+    ensures { IfOk result (λ n. n ≤ 2) }
 {
     let root = [0u32, 1, 0];
     let early = answered(23, 6, 0);
     let shown = answered(0, 7, 1);
     let one_row = [0, N, N, U, U, U, U, U, U, U, U, U];
-    snapshot_is(
+    let before = snapshot_is(
+        to,
         b"root alone, start 7",
         7,
         &root,
@@ -250,7 +280,9 @@ fn of_the_root_alone() -> u32
         6,
         early,
         &[U; 12],
-    ) + snapshot_is(
+    )?;
+    let after = snapshot_is(
+        to,
         b"root alone, start 7",
         7,
         &root,
@@ -259,18 +291,20 @@ fn of_the_root_alone() -> u32
         7,
         shown,
         &one_row,
-    )
+    )?;
+    Ok(before + after)
 }
 
 // "Label [8,8] stands; [9,8] is code 4."
-fn of_labels() -> u32
-    ensures { result ≤ 2 }
+fn of_labels(to: Stdout) -> io::Result<u32>
+    ensures { IfOk result (λ n. n ≤ 2) }
 {
     let nodes = [0u32, 1, 0, 1, 1, 0];
     let stands = answered(0, 0, 0);
     let broken = answered(4, 0, 0);
-    check_is(b"label [8,8]", &nodes, &[0, 1, 8, 8], stands)
-        + check_is(b"label [9,8]", &nodes, &[0, 1, 9, 8], broken)
+    let one = check_is(to, b"label [8,8]", &nodes, &[0, 1, 8, 8], stands)?;
+    let other = check_is(to, b"label [9,8]", &nodes, &[0, 1, 9, 8], broken)?;
+    Ok(one + other)
 }
 
 fn element_number(k: usize) -> u32
@@ -294,8 +328,8 @@ fn put_elements(nodes: &mut [u32])
 }
 
 // "1,024 nodes stand; 1,025 are code 1."
-fn of_sizes() -> u32
-    ensures { result ≤ 2 }
+fn of_sizes(to: Stdout) -> io::Result<u32>
+    ensures { IfOk result (λ n. n ≤ 2) }
 {
     let mut most = [0u32; 3072];
     let mut more = [0u32; 3075];
@@ -303,11 +337,13 @@ fn of_sizes() -> u32
     put_elements(&mut more);
     let stands = answered(0, 0, 0);
     let out_of_size = answered(1, 0, 0);
-    check_is(b"1,024 nodes", &most, &[], stands) + check_is(b"1,025 nodes", &more, &[], out_of_size)
+    let one = check_is(to, b"1,024 nodes", &most, &[], stands)?;
+    let other = check_is(to, b"1,025 nodes", &more, &[], out_of_size)?;
+    Ok(one + other)
 }
 
-fn main() {
-    let n = of_h() + of_the_root_alone() + of_labels() + of_sizes();
-    io::print_decimal(STDOUT_FILENO, n as u64);
-    io::write_all(STDOUT_FILENO, b" of 11 cases are as stated\n");
+fn main(rt: HostRuntime) -> io::Result<()> {
+    let to = rt.stdout();
+    let n = of_h(to)? + of_the_root_alone(to)? + of_labels(to)? + of_sizes(to)?;
+    println!(to; "{n} of 11 cases are as stated")
 }

@@ -2,13 +2,14 @@
 // read text if that refused, else of check.
 #![tactic(auto)]
 
-ghost use Rattle.std.specs.Prelude.{◌≡◌, ◌+◌, ◌≤◌, length, take};
+ghost use Rattle.std.specs.Prelude.{◌≡◌, ◌+◌, ◌≤◌, length, take, IfOk};
 ghost use Rattle.ground.specs.Stores.{Put};
 ghost use Rattle.check_history.specs.Says.{Says, Prints, most_input, most_output, printed, Reported};
 
 use answers::Answer;
-use libc::{STDIN_FILENO, STDOUT_FILENO};
 use lines::write::write_one;
+use std::io;
+use std::io::{Print, Read, Stdin};
 use tables::rows::{EDGE_WIDTH, NODE_WIDTH, REF_WIDTH};
 use tables::sizes::{MOST_EDGES, MOST_NODES, MOST_REFS};
 use text::read::read_text;
@@ -70,10 +71,25 @@ fn report(buffer: &[u8], n: usize, out: &mut [u8]) -> usize
     write_answer(out, said)
 }
 
-fn main() {
+// Reads until the buffer is full or the input ends, and returns how many bytes were put at the front.
+fn read_full(mut input: Stdin, buffer: &mut [u8]) -> io::Result<usize>
+    ensures { IfOk result (λ n. n ≤ length buffer.new) }
+{
+    let mut done = 0;
+    while done < buffer.len() {
+        let n = input.read(&mut buffer[done..])?;
+        if n == 0 {
+            break;
+        }
+        done += n;
+    }
+    Ok(done)
+}
+
+fn main(rt: HostRuntime) -> io::Result<()> {
     let mut buffer = [0u8; MOST_INPUT + 1];
-    let n = io::read_full(STDIN_FILENO, &mut buffer);
+    let n = read_full(rt.stdin(), &mut buffer)?;
     let mut out = [0u8; MOST_OUTPUT];
     let k = report(&buffer, n, &mut out);
-    io::write_all(STDOUT_FILENO, &out[..k]);
+    rt.write_all(&out[..k])
 }
