@@ -14,15 +14,15 @@ fn read(name: &str) -> String {
     fs::read_to_string(path).unwrap_or_else(|error| panic!("{name}: {error}"))
 }
 
-/// The file of definitions that a line takes names from: `use Rattle·tables·specs.specs.Rules.{..}` does so from
-/// crates/tables/specs/Rules.antt. What is declared is in the code.
+/// The file of definitions that a line takes names from: `use Rattle.tables.specs.Rules.{..}` does so from
+/// crates/tables/specs/Rules.antt. What is declared is in the code, and the words of std are the kit's.
 fn cited(line: &str) -> Option<String> {
     let line = line.strip_prefix("ghost ").unwrap_or(line);
-    let mut parts = line.strip_prefix("use Rattle·")?.split('.');
-    let name = parts.next()?.split('·').next()?;
+    let mut parts = line.strip_prefix("use Rattle.")?.split('.');
+    let name = parts.next()?;
     let folder = parts.next()?;
     let file = parts.next()?.split([' ', ';']).next()?;
-    (folder == "specs" && file != "declared").then(|| format!("crates/{name}/specs/{file}.antt"))
+    (name != "std" && folder == "specs" && file != "declared").then(|| format!("crates/{name}/specs/{file}.antt"))
 }
 
 /// A file and all the files of definitions that it reaches.
