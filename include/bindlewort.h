@@ -18,8 +18,8 @@
  * it may be NULL. What a call may write to overlaps nothing else that is lent to it. Calls share nothing, so that any
  * number of threads may call at once.
  *
- * The archive that `rt staticlib bindlewort` writes is for Linux on x86-64, called in the way of System V. For another
- * machine `tests/library` compiles the same proved module; that is tried on Linux on aarch64.
+ * The archive that `rt lib` writes in crates/bindlewort_c is for Linux on x86-64, called in the way of System V. The kit
+ * compiles for no other machine; what is said of aarch64 was tried with the library as an earlier kit compiled it.
  *
  * An answer, 12 bytes, comes back in registers. A result past 16 bytes, as struct bw_reading with its 28, comes back in
  * memory of the caller, whose address is handed over before all other arguments, in rdi, and comes back in rax; on
