@@ -6,7 +6,7 @@
 --   again         what was read is written again as the same text
 --   tables_written, tables_unwritten   write text answers 0 exactly if it can write the tables
 --   text_fits     the text that was written is within what was lent
---   back          what was written is read back as the same tables
+--   back          what was written is read back as the same tables; rows_back: its rows are within what was lent
 -- Assumes nothing.
 use mathlib.Core.Path.{◌≡◌, refl, sym, ap, ◌∙◌}
 use mathlib.Core.Bool.{false, false≢true}
@@ -123,3 +123,7 @@ module _ {L : Tables} {out : List ℕ} {r : Answered} {out' : List ℕ} (writes 
           edges = front_rows edge_width L.edges e sizes.edges.whole g.edges j;
           refs = front_rows ref_width L.refs f sizes.refs.whole g.refs k;
         }
+
+    pub rows_back : (q.nodes * node_width ≤ length n') × (q.edges * edge_width ≤ length e')
+        × (q.refs * ref_width ≤ length f')
+    rows_back = rows_fit most reads back.code

@@ -59,6 +59,12 @@ fn same_numbers(a: &[u32], b: &[u32]) -> bool
     true
 }
 
+fn same_bytes(a: &[u8], b: &[u8]) -> bool
+    ensures { (result ≡ true) ↔ (a.now ≡ b.now) }
+{
+    a == b
+}
+
 // Whether both the answer and what the call left are as stated.
 fn same(a: Answered, b: Answered, left: &[u32], right: &[u32]) -> bool
     ensures { (result ≡ true) ↔ ((a ≡ b) × (left.now ≡ right.now)) }
@@ -180,7 +186,7 @@ fn read_is_written(to: Stdout, text: &[u8], out: &mut [u8]) -> io::Result<u32>
     let c = first_rows(&refs, x.refs, REF_WIDTH);
     let w = bw_write_text(x.start, a, b, c, out);
     let n = w.place as usize;
-    report(to, w, &out[..n] == text)
+    report(to, w, same_bytes(&out[..n], text))
 }
 
 // Writes tables as text, reads that back, and compares: tables are counted exactly if they are within the sizes and the

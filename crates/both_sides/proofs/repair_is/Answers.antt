@@ -1,0 +1,7 @@
+use Rattle.std.proofs.lemmas.Result.{IfOk-weaker}
+use Rattle.both_sides.proofs.CaseLaws.{repair_counted}
+use Rattle.both_sides.proofs.repair_is.Goals as goal
+
+pub returns : goal.returns
+returns c =
+    IfOk-weaker _ _ _ (λ n e. repair_counted e c.bw_repair-a.ensures c.same.ensures) c.report.ensures
