@@ -6,6 +6,7 @@ use std::fs;
 use std::path::Path;
 
 const CALLS: &str = "crates/bindlewort/src/lib.rt";
+const EXPORTS: &str = "crates/bindlewort_c/src/lib.rt";
 const THEOREMS: &str = "crates/bindlewort/proofs/Demands.antt";
 
 /// A file of the repository.
@@ -79,4 +80,19 @@ fn the_readme_lists_what_is_to_be_read() {
     let definitions: usize = promised.iter().filter(|name| *name != CALLS).map(|name| lines(name)).sum();
     println!("{calls} lines of calls, {definitions} of their definitions, {theorems} of theorems");
     assert!(calls <= 150 && definitions <= 900 && theorems <= 200, "there is too much to read");
+}
+
+/// What each public call of a file takes, gives and promises: the text from its name to its body, however laid out.
+fn promised(file: &str) -> Vec<String> {
+    let text = read(file);
+    let calls = text.split("fn bw_").skip(1).map(|call| call.split("\n{").next().unwrap_or_default());
+    calls.map(|call| call.split_whitespace().collect::<String>().replace(",)", ")")).collect()
+}
+
+/// The library for C exports the public calls, each with its whole promise.
+#[test]
+fn the_exports_promise_what_the_calls_promise() {
+    let calls = promised(CALLS);
+    assert_eq!(calls, promised(EXPORTS));
+    assert_eq!(calls.len(), 5);
 }
