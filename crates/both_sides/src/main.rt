@@ -2,7 +2,7 @@
 // and leaves with what the document says. Prints a line for each case, and how many are as stated.
 #![tactic(auto)]
 
-ghost use Rattle.std.specs.Prelude.{◌≡◌, true, cond, IfOk, ◌↔◌, [], ℕ, ◌*◌, ◌≤◌, ◌<◌, length, get_or, take, replicate};
+ghost use Rattle.std.specs.Prelude.{◌≡◌, true, cond, IfOk, OnErr, ◌↔◌, [], ℕ, ◌*◌, ◌≤◌, ◌<◌, length, get_or, take, replicate};
 ghost use Rattle.verdict.specs.Checked.{Checked};
 ghost use Rattle.snapshot.specs.Snapshot.{Snapshot};
 ghost use Rattle.repair.specs.Repaired.{Repaired};
@@ -142,8 +142,9 @@ fn repair_is(
     stated: Answered,
     left: &[u32],
 ) -> io::Result<u32>
-    ensures { IfOk result (Counted (Given Told (λ a. Repaired (slices 0 nodes.now edges.old []) a
+    ensures ok { IfOk result (Counted (Given Told (λ a. Repaired (slices 0 nodes.now edges.old []) a
         left.now) stated)) }
+    ensures err { OnErr result (length edges.new ≡ length edges.old) }
 {
     to.write_all(case)?;
     to.write_all(b", repair")?;
@@ -171,7 +172,8 @@ fn same_rows(table: &[u32], count: u32, width: usize, rows: &[u32]) -> bool
 // have room for all that can be read.
 fn read_is_written(to: Stdout, text: &[u8], out: &mut [u8]) -> io::Result<u32>
     requires { length text.now ≤ length out.old }
-    ensures { IfOk result (Counted (OfForm text.now)) }
+    ensures ok { IfOk result (Counted (OfForm text.now)) }
+    ensures err { OnErr result (length out.new ≡ length out.old) }
 {
     let mut nodes = [0u32; MOST_NODES * NODE_WIDTH];
     let mut edges = [0u32; MOST_EDGES * EDGE_WIDTH];
@@ -199,8 +201,9 @@ fn written_is_read(
     refs: &[u32],
     out: &mut [u8],
 ) -> io::Result<u32>
-    ensures { IfOk result (Counted (CanWrite (slices start nodes.now edges.now refs.now)
+    ensures ok { IfOk result (Counted (CanWrite (slices start nodes.now edges.now refs.now)
         out.old)) }
+    ensures err { OnErr result (length out.new ≡ length out.old) }
 {
     let mut n = [0u32; MOST_NODES * NODE_WIDTH];
     let mut e = [0u32; MOST_EDGES * EDGE_WIDTH];

@@ -2,7 +2,7 @@
 // read text if that refused, else of check.
 #![tactic(auto)]
 
-ghost use Rattle.std.specs.Prelude.{◌≡◌, ◌+◌, ◌≤◌, length, take, IfOk};
+ghost use Rattle.std.specs.Prelude.{◌≡◌, ◌+◌, ◌≤◌, length, take, IfOk, OnErr};
 ghost use Rattle.ground.specs.Stores.{Put};
 ghost use Rattle.check_history.specs.Says.{Says, Prints, most_input, most_output, printed, Reported};
 
@@ -73,7 +73,8 @@ fn report(buffer: &[u8], n: usize, out: &mut [u8]) -> usize
 
 // Reads until the buffer is full or the input ends, and returns how many bytes were put at the front.
 fn read_full(mut input: Stdin, buffer: &mut [u8]) -> io::Result<usize>
-    ensures { IfOk result (λ n. n ≤ length buffer.new) }
+    ensures ok { IfOk result (λ n. n ≤ length buffer.new) }
+    ensures err { OnErr result (length buffer.new ≡ length buffer.old) }
 {
     let mut done = 0;
     while done < buffer.len() {

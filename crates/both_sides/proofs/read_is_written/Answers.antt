@@ -5,8 +5,8 @@ use Rattle.both_sides.proofs.CaseLaws.{differs, report_counted}
 use Rattle.both_sides.proofs.TextLaws.{zeros_most, form_read, form_unread, again}
 use Rattle.both_sides.proofs.read_is_written.Goals as goal
 
-pub returns-then-said-ne0 : goal.returns-then-said-ne0
-returns-then-said-ne0 c =
+pub returns-then-said-ne0-clause-ok : goal.returns-then-said-ne0-clause-ok
+returns-then-said-ne0-clause-ok c =
     IfOk-weaker _ _ _
     (λ n e. report_counted e (differs (form_unread zeros_most c.bw_read_text-x.ensures c.if-said-ne0.true)))
     c.report.ensures
@@ -23,8 +23,8 @@ slice_bounds-same_bytes-end-2 c =
     c.first_rows-b.ensures c.first_rows-c.ensures c.bw_write_text-w.ensures c.requires).0)
 
 -- and it is the text that was read
-pub returns : goal.returns
-returns c =
+pub returns-clause-ok : goal.returns-clause-ok
+returns-clause-ok c =
     let same = again zeros_most c.bw_read_text-x.ensures c.if-said-ne0.false c.first_rows-a.ensures
     c.first_rows-b.ensures c.first_rows-c.ensures c.bw_write_text-w.ensures c.requires in
     IfOk-weaker _ _ _

@@ -18,8 +18,8 @@ same_rows-requires-3 c =
     c.bw_read_text-x.ensures).2
 
 -- what was read back is what was written
-pub returns : goal.returns
-returns c =
+pub returns-clause-ok : goal.returns-clause-ok
+returns-clause-ok c =
     let same = back c.bw_write_text-w.ensures c.if-w-ne0.false (omega arith) (λ i. omega (arith, c.type_inv.nodes i))
     (λ i. omega (arith, c.type_inv.edges i)) (λ i. omega (arith, c.type_inv.refs i)) zeros_most
     c.bw_read_text-x.ensures in
