@@ -25,8 +25,8 @@
  * memory of the caller, whose address is handed over before all other arguments, in rdi, and comes back in rax; on
  * aarch64 it is handed over in x8. Compilers of C, C++ and Rust see to that by themselves.
  *
- * A call takes its memory from the stack of its thread and nowhere else. So many bytes were enough for tables of full
- * size, as measured (docs/PERFORMANCE.md) and rounded up:
+ * A call takes its memory from the stack of its thread and nowhere else. So many bytes are enough for tables of full
+ * size, as measured with an earlier kit (docs/PERFORMANCE.md) and rounded up; today's takes no more on x86-64:
  *
  *                                       x86-64   aarch64
  *   bw_check                            17,000    17,000
