@@ -1,10 +1,10 @@
 -- The numbers of documents 01 and 02, by cases on the answer: the only definition that has them. Assumes nothing.
-use Rattle.std.specs.Prelude.{Bool, not, ℕ, eqb}
+use Rattle.std.specs.Prelude.{Bool, true, false, ℕ, Ok, Err}
 use Rattle.answers.specs.declared.Kind.{Kind}
 use Rattle.answers.specs.declared.Kind.TheVariants.{Overlap, Gap, Outside, Cycle, Late, Dangling, Double}
-use Rattle.answers.specs.declared.Answer.{Answer}
-use Rattle.answers.specs.declared.Answer.TheVariants.{Done, Size, Start, Node, Edge, Reference, Faulty, Room}
-use Rattle.answers.specs.declared.Answer.TheVariants.{Tie, Early, Text, TextRoom}
+use Rattle.answers.specs.declared.Refusal.TheVariants.{Size, Start, Node, Edge, Reference, Faulty, Room}
+use Rattle.answers.specs.declared.Refusal.TheVariants.{Tie, Early, Text, TextRoom}
+use Rattle.answers.specs.Answers.{Answer, Done}
 
 -- [01:What the calls answer] "An answer has code, instant, place; unnamed parts are 0."
 pub record Numbers : Type 0 where
@@ -27,23 +27,24 @@ code_of Double = 17
 
 -- [01:What the calls answer] the table's column 'names'. A fault is a kind and a place
 abbrev pub numbers : Answer → Numbers
-numbers (Done t p) = says 0 t p
-numbers (Size p) = says 1 0 p
-numbers Start = says 2 0 0
-numbers (Node p) = says 3 0 p
-numbers (Edge p) = says 4 0 p
-numbers (Reference p) = says 5 0 p
-numbers (Faulty t f) = says (code_of f.kind) t f.place
-numbers (Room t p) = says 21 t p
-numbers (Tie t p) = says 22 t p
-numbers (Early t) = says 23 t 0
-numbers (Text p) = says 31 0 p
-numbers (TextRoom p) = says 32 0 p
+numbers (Ok done) = says 0 done.instant done.place
+numbers (Err (Size p)) = says 1 0 p
+numbers (Err Start) = says 2 0 0
+numbers (Err (Node p)) = says 3 0 p
+numbers (Err (Edge p)) = says 4 0 p
+numbers (Err (Reference p)) = says 5 0 p
+numbers (Err (Faulty t f)) = says (code_of f.kind) t f.place
+numbers (Err (Room t p)) = says 21 t p
+numbers (Err (Tie t p)) = says 22 t p
+numbers (Err (Early t)) = says 23 t 0
+numbers (Err (Text p)) = says 31 0 p
+numbers (Err (TextRoom p)) = says 32 0 p
 
 -- [01:Faults at an instant] "An accepted history answers code 0, instant 0, place 0."
 abbrev pub passed : Answer
 passed = Done 0 0
 
--- a refusal: the answer's code is not 0
+-- a refusal; its code is not 0 (proofs/AnswerLaws.antt: refuses_code)
 abbrev pub refuses : Answer → Bool
-refuses a = not (eqb (numbers a).code 0)
+refuses (Ok done) = false
+refuses (Err refusal) = true

@@ -6,7 +6,7 @@
 use Rattle.std.specs.Prelude.{Bool, cond, ℕ}
 use Rattle.answers.specs.declared.Fault.{Fault}
 use Rattle.answers.specs.declared.Kind.{Kind}
-use Rattle.answers.specs.declared.Answer.{Answer}
+use Rattle.answers.specs.Answers.{Answer}
 use Rattle.answers.specs.Numbers.{passed, refuses}
 
 abbrev pub fault : Kind → ℕ → Fault

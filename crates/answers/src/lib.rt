@@ -1,34 +1,33 @@
-// What the calls answer. The documents' numbers stand in specs/Numbers.antt and, for the running program, in the two
-// functions `code` below: nowhere else in the library.
+// What the calls answer: Ok with what was done, or a refusal. The documents' numbers stand in specs/Numbers.antt and,
+// for the running program, in the codes of `Kind` and in the conversion to `Answered`: nowhere else in the library.
 #![tactic(auto)]
 
 ghost use Rattle.std.specs.Prelude.{◌≡◌};
-ghost use Rattle.answers.specs.Numbers.{code_of, numbers, refuses};
+ghost use Rattle.answers.specs.Numbers.{code_of, numbers, says};
 ghost use Rattle.answers.specs.Refusals.{fault};
 
-// The kinds of faults, in the order of their codes.
-#[derive(Clone, Copy)]
+// The kinds of faults, with their codes.
+#[derive(Clone, Copy, Debug, PartialEq, Eq)]
 pub enum Kind {
-    Overlap,
-    Gap,
-    Outside,
-    Cycle,
-    Late,
-    Dangling,
-    Double,
+    Overlap = 11,
+    Gap = 12,
+    Outside = 13,
+    Cycle = 14,
+    Late = 15,
+    Dangling = 16,
+    Double = 17,
 }
 
 // A fault at an instant: its kind, and its place, a node or a reference row.
-#[derive(Clone, Copy)]
+#[derive(Clone, Copy, Debug, PartialEq, Eq)]
 pub struct Fault {
     pub kind: Kind,
     pub place: u32,
 }
 
-// An instant stands before a place. Done is code 0.
-#[derive(Clone, Copy)]
-pub enum Answer {
-    Done(u32, u32),
+// Why a call did nothing. An instant stands before a place. A place may be a table: 0, 1 or 2, as the documents say.
+#[derive(Clone, Copy, Debug, PartialEq, Eq)]
+pub enum Refusal {
     Size(u32),
     Start,
     Node(u32),
@@ -42,102 +41,84 @@ pub enum Answer {
     TextRoom(u32),
 }
 
+// What a call says that did what it is for.
+#[derive(Clone, Copy, Debug, PartialEq, Eq)]
+pub struct Outcome {
+    pub instant: u32,
+    pub place: u32,
+}
+
+pub type Answer = Result<Outcome, Refusal>;
+
+// Nothing to say but that it was done: an accepted history. What judges a step answers this too, and not (), since
+// `history_says`, `faults_say` and `Gives` have `passed` among their answers.
+pub const PASSED: Outcome = Outcome {
+    instant: 0,
+    place: 0,
+};
+
+// An answer in the documents' numbers.
+#[repr(C)]
+#[derive(Clone, Copy, Debug, PartialEq, Eq)]
+pub struct Answered {
+    pub code: u32,
+    pub instant: u32,
+    pub place: u32,
+}
+
 impl Kind {
     pub fn code(self) -> u32
         ensures { result ≡ code_of self }
     {
-        match self {
-            Kind::Overlap => 11,
-            Kind::Gap => 12,
-            Kind::Outside => 13,
-            Kind::Cycle => 14,
-            Kind::Late => 15,
-            Kind::Dangling => 16,
-            Kind::Double => 17,
-        }
+        self as u32
     }
 }
 
 impl Fault {
+    // Two parts are no conversion: a constructor is the plainest.
     pub fn of(kind: Kind, place: u32) -> Fault
         ensures { result ≡ fault kind place }
     {
-        Fault {
-            kind: kind,
-            place: place,
-        }
+        Fault { kind, place }
     }
 
+    // The code of its kind: a conversion to a number would not say that it is the code.
     pub fn code(self) -> u32
         ensures { result ≡ code_of self.kind }
     {
-        let kind = self.kind;
-        kind.code()
+        self.kind.code()
     }
 }
 
-impl Answer {
-    pub fn code(self) -> u32
-        ensures { result ≡ (numbers self).code }
+impl Answered {
+    pub fn new(code: u32, instant: u32, place: u32) -> Answered
+        ensures { says result.code result.instant result.place ≡ says code instant place }
     {
-        match self {
-            Answer::Done(_, _) => 0,
-            Answer::Size(_) => 1,
-            Answer::Start => 2,
-            Answer::Node(_) => 3,
-            Answer::Edge(_) => 4,
-            Answer::Reference(_) => 5,
-            Answer::Faulty(_, f) => f.code(),
-            Answer::Room(_, _) => 21,
-            Answer::Tie(_, _) => 22,
-            Answer::Early(_) => 23,
-            Answer::Text(_) => 31,
-            Answer::TextRoom(_) => 32,
+        Answered {
+            code,
+            instant,
+            place,
         }
     }
+}
 
-    pub fn instant(self) -> u32
-        ensures { result ≡ (numbers self).instant }
-    {
-        match self {
-            Answer::Done(t, _) => t,
-            Answer::Size(_) => 0,
-            Answer::Start => 0,
-            Answer::Node(_) => 0,
-            Answer::Edge(_) => 0,
-            Answer::Reference(_) => 0,
-            Answer::Faulty(t, _) => t,
-            Answer::Room(t, _) => t,
-            Answer::Tie(t, _) => t,
-            Answer::Early(t) => t,
-            Answer::Text(_) => 0,
-            Answer::TextRoom(_) => 0,
+impl From<Answer> for Answered {
+    ghost from_gives = { λ a r. says r.code r.instant r.place ≡ numbers a };
+
+    fn from(answer: Answer) -> Answered {
+        match answer {
+            Ok(done) => Answered::new(0, done.instant, done.place),
+            Err(Refusal::Size(place)) => Answered::new(1, 0, place),
+            Err(Refusal::Start) => Answered::new(2, 0, 0),
+            Err(Refusal::Node(place)) => Answered::new(3, 0, place),
+            Err(Refusal::Edge(place)) => Answered::new(4, 0, place),
+            Err(Refusal::Reference(place)) => Answered::new(5, 0, place),
+            Err(Refusal::Faulty(instant, f)) => Answered::new(f.code(), instant, f.place),
+            Err(Refusal::Room(instant, place)) => Answered::new(21, instant, place),
+            Err(Refusal::Tie(instant, place)) => Answered::new(22, instant, place),
+            Err(Refusal::Early(instant)) => Answered::new(23, instant, 0),
+            Err(Refusal::Text(place)) => Answered::new(31, 0, place),
+            Err(Refusal::TextRoom(place)) => Answered::new(32, 0, place),
         }
-    }
-
-    pub fn place(self) -> u32
-        ensures { result ≡ (numbers self).place }
-    {
-        match self {
-            Answer::Done(_, p) => p,
-            Answer::Size(p) => p,
-            Answer::Start => 0,
-            Answer::Node(p) => p,
-            Answer::Edge(p) => p,
-            Answer::Reference(p) => p,
-            Answer::Faulty(_, f) => f.place,
-            Answer::Room(_, p) => p,
-            Answer::Tie(_, p) => p,
-            Answer::Early(_) => 0,
-            Answer::Text(p) => p,
-            Answer::TextRoom(p) => p,
-        }
-    }
-
-    // Whether a call that meets this answer ends with it.
-    pub fn refuses(self) -> bool
-        ensures { result ≡ refuses self }
-    {
-        self.code() != 0
     }
 }

@@ -10,7 +10,7 @@ use borrow.Author.Tests.{ne_eqb}
 use Rattle.ground.specs.Among.{is_among}
 use Rattle.answers.specs.declared.Fault.{Fault}
 use Rattle.answers.specs.declared.Kind.TheVariants.{Gap}
-use Rattle.answers.specs.declared.Answer.{Answer}
+use Rattle.answers.specs.Answers.{Answer}
 use Rattle.answers.specs.Numbers.{code_of, numbers}
 use Rattle.answers.proofs.KindLaws.{every_kind}
 use Rattle.tables.specs.Tables.{Table, Tables, table}
@@ -20,7 +20,10 @@ use Rattle.verdict.specs.Checked.{Checked, ruled_out, judged}
 use Rattle.snapshot.specs.Snapshot.{Unready, ruled_out as unready-ruled-out, early, faulty, Snapshot, unready}
 use Rattle.snapshot.specs.Snapshot.{short, shows}
 use Rattle.repair.specs.Repaired.{Repaired, ruled_out as repair-ruled-out, tie, mended}
-use Rattle.text.specs.declared.read.TextReading.{TextReading}
+use Rattle.text.specs.declared.forms.Counts.{Counts}
+use Rattle.answers.specs.declared.Refusal.{Refusal}
+use Rattle.std.specs.Prelude.{Result}
+use Rattle.bindlewort.specs.Given.{answer_in}
 use Rattle.text.specs.Answers.{Written, out_of_size, short as text_short, wrote, Read, wrong_text, no_room, took}
 use Rattle.text.proofs.PromiseLaws.{read_unique}
 use Rattle.bindlewort.specs.Codes.{rule_codes, check_codes, snapshot_codes, repair_codes, write_codes, read_codes}
@@ -88,7 +91,8 @@ write_among (out_of_size g) = refl
 write_among (text_short s h) = refl
 write_among (wrote s h) = refl
 
-taken_among : {s n e f n' e' f' : List ℕ} {x : TextReading} → Read s n e f x n' e' f' → Has read_codes x.answer
+taken_among : {s n e f n' e' f' : List ℕ} {x : Result Counts Refusal} → Read s n e f x n' e' f'
+    → Has read_codes (answer_in x)
 taken_among (wrong_text x w) = refl
 taken_among (no_room a k) = refl
 taken_among (took a h) = refl
@@ -99,4 +103,4 @@ read_among ((x, _, _, _), (p, g)) = subst (Has read_codes) g (taken_among p)
 pub read_answer_unique : {s n e f : List ℕ} {a b : Answer} → Allows (ReadAnswer s n e f) a
     → Allows (ReadAnswer s n e f) b → a ≡ b
 read_answer_unique ((x, _, _, _), (p, g)) ((y, _, _, _), (q, h)) =
-    sym g ∙ ap (λ (z : TextReading). z.answer) (read_unique p q).0 ∙ h
+    sym g ∙ ap answer_in (read_unique p q).0 ∙ h

@@ -7,8 +7,9 @@ use Prim.Native.Nat.{ℕ, ◌≤◌}
 use lib.ListN.{length, take}
 use Rattle.ground.specs.Lists.{front}
 use Rattle.ground.specs.Among.{All}
+use Rattle.std.specs.Prelude.{Ok}
 use Rattle.answers.specs.declared.Fault.{Fault}
-use Rattle.answers.specs.declared.Answer.TheVariants.{Done, Faulty}
+use Rattle.answers.specs.Answers.{Done, Faulty}
 use Rattle.answers.specs.Numbers.{numbers, passed}
 use Rattle.tables.specs.Tables.{Now, edge_at, Tables, table, edge_in}
 use Rattle.tables.specs.Rules.{Obeys}
@@ -26,16 +27,16 @@ use Rattle.repair.specs.Stays.{Stay, OneLatest}
 use Rattle.repair.specs.Repaired.{Repaired}
 use Rattle.repair.proofs.Repaired.{repaired_unique, refused_frame as repaired-frame, done_one}
 use Rattle.text.specs.Text.{Small}
-use Rattle.text.specs.Answers.{Written, reading_of, Fits}
+use Rattle.text.specs.Answers.{Written, counts_of, Fits}
 use Rattle.text.proofs.PromiseLaws.{write_unique as written-unique, write_frame as written-frame, read_written}
-use Rattle.text.proofs.PromiseLaws.{read_unique as taken-unique, read_frame as taken-frame, read_fronts, write_read}
-use Rattle.bindlewort.specs.declared.Answered.{Answered}
+use Rattle.text.proofs.PromiseLaws.{read_unique as taken-unique, read_fronts, write_read}
+use Rattle.answers.specs.declared.Answered.{Answered}
 use Rattle.bindlewort.specs.declared.Reading.{Reading}
-use Rattle.bindlewort.specs.Given.{Told, Retold, Given, Leaves, Reads}
+use Rattle.bindlewort.specs.Given.{Told, answer_in, Retold, Given, Leaves, Reads}
 use Rattle.bindlewort.specs.Codes.{check_codes, snapshot_codes, repair_codes, write_codes, read_codes, Allows}
 use Rattle.bindlewort.specs.Codes.{ReadAnswer, found, Exactly}
 use Rattle.bindlewort.specs.Cases.{Promised, cases}
-use Rattle.bindlewort.proofs.GivenLaws.{retold_same, retold_nothing, told_refuses, told_done, written_place}
+use Rattle.bindlewort.proofs.GivenLaws.{retold_same, retold_nothing, retold_frame, retold_done, told_refuses, told_done, written_place}
 use Rattle.bindlewort.proofs.GivenLaws.{given_unique, given_exactly, leaves_exactly, leaves_frame, leaves_unique}
 use Rattle.bindlewort.proofs.GivenLaws.{found_fronts, verdict_unsound}
 use Rattle.bindlewort.proofs.CodeLaws.{check_among, snapshot_among, repair_among, write_among, read_among}
@@ -113,15 +114,16 @@ module _ (s n e f : List ℕ) (r : Reading) (n' e' f' : List ℕ) (given : Reads
   read_exactly =
       let (x, p, g) = given in
       given_exactly _ (λ a b. read_answer_unique) read_codes (λ a. read_among) r.answer
-      (x.answer, ((x, n', e', f'), (p, refl)), g.answer)
+      (answer_in x, ((x, n', e', f'), (p, refl)), g.answer)
 
   pub read_frame : r.answer.code ≢ 0
       → (r ≡ record { answer = r.answer; start = 0; nodes = 0; edges = 0; refs = 0 })
       × (n' ≡ n) × (e' ≡ e) × (f' ≡ f)
   read_frame h =
       let (x, p, g) = given in
-      let (none, i, j, k) = taken-frame p (told_refuses r.answer x.answer g.answer h) in
-      (retold_same x r _ g (retold_nothing none g.answer), i, j, k)
+      let refused = told_refuses r.answer (answer_in x) g.answer h in
+      let (i, j, k) = retold_frame x p refused in
+      (retold_same x r _ g (retold_nothing x refused g.answer), i, j, k)
 
   pub read_unique : (q : Reading) (n'' e'' f'' : List ℕ) → Reads s n e f q n'' e'' f''
       → (r ≡ q) × (n' ≡ n'') × (e' ≡ e'') × (f' ≡ f'')
@@ -137,7 +139,7 @@ module _ (t : Tables) (out : List ℕ) (r : Answered) (out' : List ℕ) (given :
     (edges : Small t.edges.numbers) (refs : Small t.refs.numbers) where
   pub written_reads_back : (n e f : List ℕ) (q : Reading) (n' e' f' : List ℕ) → Fits t n e f
       → Reads (take r.place out') n e f q n' e' f'
-      → Retold (reading_of passed t) q
+      → Retold (Ok (counts_of t)) q
       × (n' ≡ front t.nodes.numbers n) × (e' ≡ front t.edges.numbers e) × (f' ≡ front t.refs.numbers f)
   written_reads_back n e f q n' e' f' fits (x, p, g) =
       let (a, w, k) = given in
@@ -152,8 +154,9 @@ module _ (s n e f : List ℕ) (r : Reading) (n' e' f' : List ℕ) (given : Reads
       → Told (Done 0 (length s)) q × (out' ≡ front s out)
   read_writes_again out q out' room (b, w, k) =
       let (x, p, g) = given in
-      let ok = told_done r.answer x.answer g.answer done in
-      let (is, text) = write_read p ok (rw (found_fronts n' e' f' g (read_fronts p ok).lendable) at w) room in
+      let (c, ok) = retold_done x g done in
+      let p = rw ok at p in
+      let (is, text) = write_read p (rw (found_fronts n' e' f' (rw ok at g) (read_fronts p).lendable) at w) room in
       (k ∙ ap numbers is, text)
 
 -- [demand 3] "For a start and tables that obey the start, size and row rules, a history is accepted exactly if at every

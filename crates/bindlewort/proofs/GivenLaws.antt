@@ -1,7 +1,9 @@
 -- What is returned to a caller, by the answer that it tells. Assumes nothing.
 use mathlib.Core.Path.{◌≡◌, refl, sym, ap, ◌∙◌, subst}
 use mathlib.Core.Logic.{◌≢◌}
-use mathlib.Core.Bool.{true, false, not}
+use mathlib.Core.Bool.{true, false, not, false≢true}
+use Rattle.std.specs.Prelude.{Result, Ok, Err}
+use Rattle.answers.specs.declared.Refusal.{Refusal}
 use mathlib.Core.List.{List}
 use Prim.Native.Nat.{ℕ, ◌/◌, ◌<◌}
 use native.Mathlib.Nat.{mul-div_cancel}
@@ -10,23 +12,23 @@ use lib.ListN.{length}
 use borrow.Author.Tests.{eq-eqb, ne_eqb}
 use Rattle.ground.specs.Among.{is_among}
 use Rattle.answers.specs.declared.Fault.{Fault}
-use Rattle.answers.specs.declared.Answer.{Answer}
-use Rattle.answers.specs.declared.Answer.TheVariants.{Faulty}
+use Rattle.answers.specs.Answers.{Answer}
+use Rattle.answers.specs.Answers.{Faulty}
 use Rattle.answers.specs.Numbers.{Numbers, numbers, refuses}
-use Rattle.answers.proofs.AnswerLaws.{answer_unique}
+use Rattle.answers.proofs.AnswerLaws.{answer_unique, refuses_code}
 use Rattle.tables.specs.Tables.{node_width, edge_width, ref_width, Table, Tables}
 use Rattle.tables.specs.Rules.{Whole}
 use Rattle.history.specs.Sound.{AllSound, FirstUnsound}
 use Rattle.history.specs.Faults.{History, Verdict, accepted, refused}
 use Rattle.history.specs.Ruled.{Ruled}
 use Rattle.history.proofs.VerdictLaws.{accepted_sound, refused_unsound}
-use Rattle.text.specs.declared.read.TextReading.{TextReading}
+use Rattle.text.specs.declared.forms.Counts.{Counts}
 use Rattle.text.specs.Text.{Lendable, text_of}
-use Rattle.text.specs.Answers.{Written, no_tables, reading_of}
-use Rattle.text.proofs.PromiseLaws.{write_holds, fronts}
-use Rattle.bindlewort.specs.declared.Answered.{Answered}
+use Rattle.text.specs.Answers.{Written, Read}
+use Rattle.text.proofs.PromiseLaws.{write_holds, read_frame, fronts}
+use Rattle.answers.specs.declared.Answered.{Answered}
 use Rattle.bindlewort.specs.declared.Reading.{Reading}
-use Rattle.bindlewort.specs.Given.{slices, Told, Retold, Given, Leaves}
+use Rattle.bindlewort.specs.Given.{slices, Told, Retold, Given, Leaves, answer_in}
 use Rattle.bindlewort.specs.Codes.{Allows, found, Exactly}
 
 -- slices that hold just the rows of tables are these tables
@@ -50,9 +52,9 @@ pub told_same : (a : Answer) (r q : Answered) → Told a r → Told a q → r �
 told_same a r q e f =
     ap (λ (n : Numbers). record { code = n.code; instant = n.instant; place = n.place }) (e ∙ sym f)
 
-pub retold_same : (x : TextReading) (r q : Reading) → Retold x r → Retold x q → r ≡ q
+pub retold_same : (x : Result Counts Refusal) (r q : Reading) → Retold x r → Retold x q → r ≡ q
 retold_same x r q g h =
-    let e = told_same x.answer r.answer q.answer g.answer h.answer in
+    let e = told_same (answer_in x) r.answer q.answer g.answer h.answer in
     λ i. record {
       answer = e i;
       start = (g.start ∙ sym h.start) i;
@@ -62,26 +64,32 @@ retold_same x r q g h =
     }
 
 -- a reading that tells no start and no rows
-pub retold_nothing : {x : TextReading} {a : Answered} → x ≡ reading_of x.answer no_tables → Told x.answer a
+pub retold_nothing : (x : Result Counts Refusal) {a : Answered} → refuses (answer_in x) ≡ true → Told (answer_in x) a
     → Retold x (reading a 0 0 0 0)
-retold_nothing {x} {a} none e =
-    record {
-      answer = e;
-      start = ap (λ (y : TextReading). y.start) (sym none);
-      nodes = ap (λ (y : TextReading). y.nodes) (sym none);
-      edges = ap (λ (y : TextReading). y.edges) (sym none);
-      refs = ap (λ (y : TextReading). y.refs) (sym none);
-    }
+retold_nothing (Ok c) t e = absurd (false≢true t)
+retold_nothing (Err x) t e = record { answer = e; start = refl; nodes = refl; edges = refl; refs = refl }
+
+-- a text that was refused leaves the tables
+pub retold_frame : (x : Result Counts Refusal) {s n e f n' e' f' : List ℕ} → Read s n e f x n' e' f'
+    → refuses (answer_in x) ≡ true → (n' ≡ n) × (e' ≡ e) × (f' ≡ f)
+retold_frame (Ok c) p t = absurd (false≢true t)
+retold_frame (Err x) p t = read_frame p
 
 module _ (r : Answered) (a : Answer) (e : Told a r) where
   pub told_code : r.code ≡ (numbers a).code
   told_code = ap (λ (n : Numbers). n.code) e
 
   pub told_refuses : r.code ≢ 0 → refuses a ≡ true
-  told_refuses h = ap not (ne_eqb (numbers a).code 0 (λ z. h (told_code ∙ z)))
+  told_refuses h = refuses_code a ∙ ap not (ne_eqb (numbers a).code 0 (λ z. h (told_code ∙ z)))
 
   pub told_done : r.code ≡ 0 → refuses a ≡ false
-  told_done z = ap not (eq-eqb (numbers a).code 0 (sym told_code ∙ z))
+  told_done z = refuses_code a ∙ ap not (eq-eqb (numbers a).code 0 (sym told_code ∙ z))
+
+-- a reading with code 0 tells what was read
+pub retold_done : (x : Result Counts Refusal) {r : Reading} → Retold x r → r.answer.code ≡ 0
+    → (c : Counts) × (x ≡ Ok c)
+retold_done (Ok c) g z = (c, refl)
+retold_done (Err x) {r} g z = absurd (false≢true (sym (told_done r.answer (Err x) g.answer z)))
 
 -- what write text counts is the text
 pub written_place : {t : Tables} {out out' : List ℕ} {r : Answered} → Leaves (Written t out) r out' → r.code ≡ 0
@@ -90,11 +98,11 @@ written_place {r = r} (a, w, k) z =
     ap (λ (m : Numbers). m.place) (k ∙ ap numbers (write_holds w (told_done r a k z)).1)
 
 -- the slices that a caller finds are the tables that were read
-pub found_fronts : {x : TextReading} {r : Reading} (n e f : List ℕ) → Retold x r → Lendable (fronts x n e f)
-    → found r n e f ≡ fronts x n e f
-found_fronts {x} n e f g o =
+pub found_fronts : {c : Counts} {r : Reading} (n e f : List ℕ) → Retold (Ok c) r → Lendable (fronts c n e f)
+    → found r n e f ≡ fronts c n e f
+found_fronts {c} n e f g o =
     rw (g.start, g.nodes, g.edges, g.refs)
-    (slices_whole (fronts x n e f) o.nodes.whole o.edges.whole o.refs.whole)
+    (slices_whole (fronts c n e f) o.nodes.whole o.edges.whole o.refs.whole)
 
 -- a verdict on a history that is not sound throughout
 pub verdict_unsound : (H : History) → Ruled H → {a : Answer} → Verdict H a

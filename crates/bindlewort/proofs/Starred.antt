@@ -8,7 +8,7 @@ use Rattle.ground.specs.Searches.{any, least}
 use Rattle.ground.specs.Sums.{sum}
 use Rattle.ground.specs.Lists.{front}
 use Rattle.ground.specs.Among.{All}
-use Rattle.answers.specs.declared.Answer.{Answer}
+use Rattle.answers.specs.Answers.{Answer}
 use Rattle.answers.specs.Numbers.{Numbers, says, numbers}
 use Rattle.tables.specs.Tables.{node_at, edge_at, ref_at}
 use Rattle.tables.specs.Rows.{set_end}
@@ -26,7 +26,7 @@ use Rattle.snapshot.proofs.SnapshotLaws.{says_snapshot}
 use Rattle.repair.specs.Ends.{tied, next_start, last_end, new_end_of, with_ends, repaired}
 use Rattle.repair.specs.Says.{settle_says, repair_says, repair_leaves}
 use Rattle.repair.proofs.RepairedLaws.{repaired_of}
-use Rattle.bindlewort.specs.declared.Answered.{Answered}
+use Rattle.answers.specs.declared.Answered.{Answered}
 use Rattle.bindlewort.specs.Given.{slices}
 use Rattle.bindlewort.specs.Cases.{Case, check, snapshot, repair, sevens, Promised, cases}
 

@@ -5,7 +5,7 @@ use Rattle.tables.specs.Tables.{Now}
 use Rattle.verdict.specs.Checked.{Checked}
 use Rattle.snapshot.specs.Snapshot.{Snapshot}
 use Rattle.repair.specs.Repaired.{Repaired}
-use Rattle.bindlewort.specs.declared.Answered.{Answered}
+use Rattle.answers.specs.declared.Answered.{Answered}
 use Rattle.bindlewort.specs.Given.{slices, Told, Given}
 
 -- a call on tables of start 0, what it returns, and the numbers that a snapshot shows or that a repair leaves

@@ -1,17 +1,18 @@
 -- What the theorems say of the calls: the codes that each can give, each exactly under its condition. Assumes nothing.
-use Rattle.std.specs.Prelude.{◌≡◌, ◌↔◌, true, List, [], ◌∷◌, ◌++◌, map, ℕ, ◌*◌, take}
+use Rattle.std.specs.Prelude.{◌≡◌, ◌↔◌, Result, true, List, [], ◌∷◌, ◌++◌, map, ℕ, ◌*◌, take}
 use Rattle.ground.specs.Among.{is_among}
-use Rattle.answers.specs.declared.Answer.{Answer}
-use Rattle.answers.specs.declared.Answer.TheVariants.{Size, Start, Node, Edge, Reference, Room, Tie, Early, Text}
-use Rattle.answers.specs.declared.Answer.TheVariants.{TextRoom}
+use Rattle.answers.specs.Answers.{Answer}
+use Rattle.answers.specs.Answers.{Size, Start, Node, Edge, Reference, Room, Tie, Early, Text}
+use Rattle.answers.specs.Answers.{TextRoom}
 use Rattle.answers.specs.Numbers.{code_of, numbers, passed}
 use Rattle.answers.specs.Kinds.{kinds, shown_kinds}
 use Rattle.tables.specs.Tables.{node_width, edge_width, ref_width, Tables}
-use Rattle.text.specs.declared.read.TextReading.{TextReading}
+use Rattle.text.specs.declared.forms.Counts.{Counts}
 use Rattle.text.specs.Answers.{Read}
-use Rattle.bindlewort.specs.declared.Answered.{Answered}
+use Rattle.answers.specs.declared.Answered.{Answered}
+use Rattle.answers.specs.declared.Refusal.{Refusal}
 use Rattle.bindlewort.specs.declared.Reading.{Reading}
-use Rattle.bindlewort.specs.Given.{slices, Told}
+use Rattle.bindlewort.specs.Given.{slices, Told, answer_in}
 
 -- the codes of answers, whatever their instants and places
 abbrev codes_of : List Answer → List ℕ
@@ -45,8 +46,9 @@ read_codes = codes_of (passed ∷ Text 0 ∷ Room 0 0 ∷ [])
 abbrev pub Allows : {B : Type 0} → (Answer → B → Type 0) → Answer → Type 0
 Allows {B} P a = (left : B) × P a left
 
-abbrev pub ReadAnswer : List ℕ → List ℕ → List ℕ → List ℕ → Answer → TextReading × List ℕ × List ℕ × List ℕ → Type 0
-ReadAnswer s n e f a (x, n', e', f') = Read s n e f x n' e' f' × (x.answer ≡ a)
+abbrev pub ReadAnswer : List ℕ → List ℕ → List ℕ → List ℕ → Answer
+    → Result Counts Refusal × List ℕ × List ℕ × List ℕ → Type 0
+ReadAnswer s n e f a (x, n', e', f') = Read s n e f x n' e' f' × (answer_in x ≡ a)
 
 -- [01:What the calls answer] "Each is given exactly under its condition"
 pub record Exactly (codes : List ℕ) (P : Answer → Type 0) (r : Answered) : Type 0 where

@@ -3,28 +3,23 @@
 // exports of bindlewort_c.
 #![tactic(auto)]
 
-ghost use Rattle.std.specs.Prelude.{[]};
+ghost use Rattle.std.specs.Prelude.{◌≡◌, [], ◌/◌, length};
 ghost use Rattle.verdict.specs.Checked.{Checked};
 ghost use Rattle.snapshot.specs.Snapshot.{Snapshot};
 ghost use Rattle.repair.specs.Repaired.{Repaired};
 ghost use Rattle.text.specs.Answers.{Written};
-ghost use Rattle.bindlewort.specs.Given.{slices, Told, Given, Leaves, Reads};
+ghost use Rattle.tables.specs.Tables.{table};
+ghost use Rattle.bindlewort.specs.Given.{slices, Told, Retold, Given, Leaves, Reads};
 
-use answers::Answer;
-use tables::rows::{EDGE_WIDTH, NODE_WIDTH, REF_WIDTH};
-
-// An answer in the documents' numbers.
-#[repr(C)]
-#[derive(Clone, Copy)]
-pub struct Answered {
-    pub code: u32,
-    pub instant: u32,
-    pub place: u32,
-}
+pub use answers::Answered;
+use answers::{PASSED, Refusal};
+use tables::lent::{Table, Tables};
+use tables::rows::{EDGE_WIDTH, EdgeRow, NodeRow, RefRow, Row};
+use text::forms::Counts;
 
 // What read text gives: its answer, the start and how many rows each table has.
 #[repr(C)]
-#[derive(Clone, Copy)]
+#[derive(Clone, Copy, Debug, PartialEq, Eq)]
 pub struct Reading {
     pub answer: Answered,
     pub start: u32,
@@ -33,13 +28,47 @@ pub struct Reading {
     pub refs: u32,
 }
 
-fn tell(a: Answer) -> Answered
-    ensures { Told a result }
+impl From<Result<Counts, Refusal>> for Reading {
+    ghost from_gives = { Retold };
+
+    fn from(read: Result<Counts, Refusal>) -> Reading {
+        match read {
+            Ok(counts) => Reading {
+                answer: Answered::from(Ok(PASSED)),
+                start: counts.start,
+                nodes: counts.nodes,
+                edges: counts.edges,
+                refs: counts.refs,
+            },
+            Err(refusal) => Reading {
+                answer: Answered::from(Err(refusal)),
+                start: 0,
+                nodes: 0,
+                edges: 0,
+                refs: 0,
+            },
+        }
+    }
+}
+
+// A slice as a table: a count is the slice's length by the row's width, rounded down.
+fn rows_of<R: Row>(numbers: &[u32]) -> Table<'_>
+    ensures { result ≡ table numbers.now (length numbers.now / R.WIDTH) }
 {
-    Answered {
-        code: a.code(),
-        instant: a.instant(),
-        place: a.place(),
+    Table {
+        numbers,
+        count: numbers.len() / R::WIDTH,
+    }
+}
+
+fn tables<'a>(start: u32, nodes: &'a [u32], edges: &'a [u32], refs: &'a [u32]) -> Tables<'a>
+    ensures { result ≡ slices start nodes.now edges.now refs.now }
+{
+    Tables {
+        start,
+        nodes: rows_of::<NodeRow>(nodes),
+        edges: rows_of::<EdgeRow>(edges),
+        refs: rows_of::<RefRow>(refs),
     }
 }
 
@@ -48,10 +77,7 @@ pub fn bw_check(start: u32, nodes: &[u32], edges: &[u32], refs: &[u32]) -> Answe
     ensures { Given Told
         (Checked (slices start nodes.now edges.now refs.now)) result }
 {
-    let n = nodes.len() / NODE_WIDTH;
-    let m = edges.len() / EDGE_WIDTH;
-    let k = refs.len() / REF_WIDTH;
-    tell(verdict::check(start, nodes, n, edges, m, refs, k))
+    Answered::from(verdict::check(&tables(start, nodes, edges, refs)))
 }
 
 // Snapshot: the root and what it contains at t, a row for each node.
@@ -67,10 +93,7 @@ pub fn bw_snapshot(
         (slices start nodes.now edges.now refs.now) t
         out.old) result out.new }
 {
-    let n = nodes.len() / NODE_WIDTH;
-    let m = edges.len() / EDGE_WIDTH;
-    let k = refs.len() / REF_WIDTH;
-    tell(snapshot::snapshot(start, nodes, n, edges, m, refs, k, t, out))
+    Answered::from(snapshot::snapshot(&tables(start, nodes, edges, refs), t, out))
 }
 
 // Repair: each child gets, from its first start to its last end, the parent of the row that started last.
@@ -78,9 +101,8 @@ pub fn bw_repair(start: u32, nodes: &[u32], edges: &mut [u32]) -> Answered
     ensures { Leaves (Repaired (slices start nodes.now edges.old [])) result
         edges.new }
 {
-    let n = nodes.len() / NODE_WIDTH;
     let m = edges.len() / EDGE_WIDTH;
-    tell(repair::repair(start, nodes, n, edges, m))
+    Answered::from(repair::repair(start, rows_of::<NodeRow>(nodes), edges, m))
 }
 
 // Write text: the text of the tables, whatever their numbers.
@@ -95,10 +117,7 @@ pub fn bw_write_text(
         (slices start nodes.now edges.now refs.now)
         out.old) result out.new }
 {
-    let n = nodes.len() / NODE_WIDTH;
-    let m = edges.len() / EDGE_WIDTH;
-    let k = refs.len() / REF_WIDTH;
-    tell(text::write::write_text(start, nodes, n, edges, m, refs, k, out))
+    Answered::from(text::write::write_text(&tables(start, nodes, edges, refs), out))
 }
 
 // Read text: the tables that the text holds, at the front of those that are lent.
@@ -106,13 +125,5 @@ pub fn bw_read_text(text: &[u8], nodes: &mut [u32], edges: &mut [u32], refs: &mu
     ensures { Reads text.now nodes.old edges.old refs.old result
         nodes.new edges.new refs.new }
 {
-    let x = text::read::read_text(text, nodes, edges, refs);
-    let a = x.answer;
-    Reading {
-        answer: tell(a),
-        start: x.start,
-        nodes: x.nodes,
-        edges: x.edges,
-        refs: x.refs,
-    }
+    Reading::from(text::read::read_text(text, nodes, edges, refs))
 }

@@ -1,31 +1,23 @@
 -- What a comparison tells.
---   answered_same   two answers are the same if their numbers are
 --   differs         where two things differ, `false` says so
 --   report_counted  what a report counts
 --   check_counted, snapshot_counted, repair_counted   a call's outcome is compared with what is stated: since its
 --                   promise allows one outcome alone, it allows what is stated exactly where the two are the same
---   ElementsPut     of a table, i numbers are those of a root and elements: elements_start, elements_step
 -- Assumes nothing.
 use native.Mathlib.Omega.{arith}
-use mathlib.Core.Path.{◌≡◌, refl, sym, ◌∙◌, subst}
+use mathlib.Core.Path.{◌≡◌, refl, sym, subst}
 use mathlib.Core.Bool.{Bool, true, false, cond, false≢true}
 use mathlib.Core.Logic.{◌↔◌}
 use mathlib.Core.List.{List}
-use Prim.Native.Nat.{ℕ, ◌+◌, ◌<◌}
-use lib.ListN.{length, get_or, set, length-set}
-use lib.Seq.{get_or-set_same, get_or-set_other}
-use borrow.Author.Count.{below_more}
+use Prim.Native.Nat.{ℕ}
 use Rattle.tables.specs.Tables.{Tables}
 use Rattle.verdict.specs.Checked.{Checked}
 use Rattle.snapshot.specs.Snapshot.{Snapshot}
 use Rattle.repair.specs.Repaired.{Repaired}
-use Rattle.bindlewort.specs.declared.Answered.{Answered}
+use Rattle.answers.specs.declared.Answered.{Answered}
 use Rattle.bindlewort.specs.Given.{Told, Given, Leaves}
 use Rattle.bindlewort.proofs.Demands.{check_unique, snapshot_unique, repair_unique}
-use Rattle.both_sides.specs.Cases.{Counted, elements}
-
-pub answered_same : {a b : Answered} → a.code ≡ b.code → a.instant ≡ b.instant → a.place ≡ b.place → a ≡ b
-answered_same p q r = λ i. record { code = p i; instant = q i; place = r i }
+use Rattle.both_sides.specs.Cases.{Counted}
 
 pub differs : {A : Type 0} → (A → ⊥) → (false ≡ true) ↔ A
 differs other = (λ e. absurd (false≢true e), λ a. absurd (other a))
@@ -67,22 +59,3 @@ module _ {L : Tables} {a b : Answered} {k : Bool} {r : ℕ} (counts : r ≡ cond
   pub repair_counted : {u v : List ℕ} → Leaves (Repaired L) a u → (k ≡ true) ↔ ((a ≡ b) × (u ≡ v))
       → Counted (Leaves (Repaired L) b v) r
   repair_counted g w = case_counted (Leaves (Repaired L)) (λ x y u v p q. repair_unique L x u p y v q) g w counts
-
--- before turn i, the table is as long as it was, and each number below i is an element's
-pub record ElementsPut (before nodes : List ℕ) (i : ℕ) : Type 0 where
-  pub long : length nodes ≡ length before
-  pub passed : (k : ℕ) → k < i → get_or nodes k 0 ≡ elements k
-
-pub elements_start : (before : List ℕ) → ElementsPut before before 0
-elements_start before = record { long = refl; passed = λ k l. absurd (omega arith) }
-
-pub elements_step : (before nodes : List ℕ) (i v : ℕ) → ElementsPut before nodes i → i < length nodes → v ≡ elements i
-    → ElementsPut before (set nodes i v) (i + 1)
-elements_step before nodes i v d h e =
-    record {
-      long = length-set nodes i v ∙ d.long;
-      passed =
-          below_more (λ k. get_or (set nodes i v) k 0 ≡ elements k) i
-          (λ k l. get_or-set_other nodes i k v 0 (λ q. absurd (omega arith)) ∙ d.passed k l)
-          (get_or-set_same nodes i v 0 h ∙ e);
-    }

@@ -1,5 +1,6 @@
 // Runs the cases of document 01's 'Both sides of the line' that are not starred, and compares what each call answers
-// and leaves with what the document says. Prints a line for each case, and how many are as stated.
+// and leaves with what the document says. Prints a line for each case, and how many are as stated. It takes no heap:
+// its tables are arrays, as long as a case needs.
 #![tactic(auto)]
 
 ghost use Rattle.std.specs.Prelude.{◌≡◌, true, cond, IfOk, OnErr, ◌↔◌, [], ℕ, ◌*◌, ◌≤◌, ◌<◌, length, get_or, take, replicate};
@@ -21,79 +22,24 @@ const N: u32 = 4294967295;
 // What an output holds before the call.
 const U: u32 = 7;
 
-fn answered(code: u32, instant: u32, place: u32) -> Answered
-    ensures { (result.code ≡ code) × (result.instant ≡ instant) × (result.place ≡ place) }
-{
-    Answered {
-        code: code,
-        instant: instant,
-        place: place,
-    }
-}
-
-fn same_answer(a: Answered, b: Answered) -> bool
-    ensures { (result ≡ true) ↔ (a ≡ b) }
-{
-    if a.code != b.code {
-        return false;
-    }
-    if a.instant != b.instant {
-        return false;
-    }
-    a.place == b.place
-}
-
-fn same_numbers(a: &[u32], b: &[u32]) -> bool
-    ensures { (result ≡ true) ↔ (a.now ≡ b.now) }
-{
-    if a.len() != b.len() {
-        return false;
-    }
-    let mut i = 0;
-    while i < a.len() {
-        if a[i] != b[i] {
-            return false;
-        }
-        i += 1;
-    }
-    true
-}
-
-fn same_bytes(a: &[u8], b: &[u8]) -> bool
-    ensures { (result ≡ true) ↔ (a.now ≡ b.now) }
-{
-    a == b
-}
-
 // Whether both the answer and what the call left are as stated.
 fn same(a: Answered, b: Answered, left: &[u32], right: &[u32]) -> bool
     ensures { (result ≡ true) ↔ ((a ≡ b) × (left.now ≡ right.now)) }
 {
-    if same_answer(a, b) {
-        same_numbers(left, right)
-    } else {
-        false
-    }
-}
-
-fn print_number(to: Stdout, v: u32) -> io::Result<()> {
-    print!(to; " {v}")
+    (a == b) && (left == right)
 }
 
 // Prints an answer and whether the case is as stated. Counts it where it is.
 fn report(to: Stdout, a: Answered, agrees: bool) -> io::Result<u32>
     ensures { IfOk result (λ n. n ≡ cond agrees 1 0) }
 {
-    to.write_all(b":")?;
-    print_number(to, a.code)?;
-    print_number(to, a.instant)?;
-    print_number(to, a.place)?;
+    print!(to; ": {} {} {}", a.code, a.instant, a.place)?;
     if agrees {
         to.write_all(b" as stated\n")?;
-        return Ok(1);
+    } else {
+        to.write_all(b" NOT as stated\n")?;
     }
-    to.write_all(b" NOT as stated\n")?;
-    Ok(0)
+    Ok(u32::from(agrees))
 }
 
 fn check_is(
@@ -108,7 +54,7 @@ fn check_is(
     to.write_all(case)?;
     to.write_all(b", check")?;
     let a = bw_check(0, nodes, edges, &[]);
-    report(to, a, same_answer(a, stated))
+    report(to, a, a == stated)
 }
 
 fn snapshot_is(
@@ -127,8 +73,7 @@ fn snapshot_is(
         t (replicate 12 7) a left.now) stated)) }
 {
     to.write_all(case)?;
-    to.write_all(b", snapshot at")?;
-    print_number(to, t)?;
+    print!(to; ", snapshot at {t}")?;
     let mut out = [U; 12];
     let a = bw_snapshot(start, nodes, edges, refs, t, &mut out);
     report(to, a, same(a, stated, &out, left))
@@ -165,7 +110,7 @@ fn same_rows(table: &[u32], count: u32, width: usize, rows: &[u32]) -> bool
     requires { count * width ≤ length table.now }
     ensures { (result ≡ true) ↔ (take (count * width) table.now ≡ rows.now) }
 {
-    same_numbers(first_rows(table, count, width), rows)
+    first_rows(table, count, width) == rows
 }
 
 // Reads a text, writes again what was read, and compares: a text is counted exactly if it is of the form. The tables
@@ -188,7 +133,7 @@ fn read_is_written(to: Stdout, text: &[u8], out: &mut [u8]) -> io::Result<u32>
     let c = first_rows(&refs, x.refs, REF_WIDTH);
     let w = bw_write_text(x.start, a, b, c, out);
     let n = w.place as usize;
-    report(to, w, same_bytes(&out[..n], text))
+    report(to, w, &out[..n] == text)
 }
 
 // Writes tables as text, reads that back, and compares: tables are counted exactly if they are within the sizes and the
@@ -224,8 +169,8 @@ fn written_is_read(
 fn snapshots_of_h(to: Stdout, nodes: &[u32], edges: &[u32], refs: &[u32]) -> io::Result<u32>
     ensures { IfOk result (λ n. n ≤ 2) }
 {
-    let dangling = answered(16, 100, 0);
-    let shown = answered(0, 121, 3);
+    let dangling = Answered::new(16, 100, 0);
+    let shown = Answered::new(0, 121, 3);
     let same_three = [0, N, N, 1, 0, N, 2, 0, N, U, U, U];
     let before = snapshot_is(to, b"H", 0, nodes, edges, refs, 100, dangling, &[U; 12])?;
     let after = snapshot_is(to, b"H", 0, nodes, edges, refs, 121, shown, &same_three)?;
@@ -264,7 +209,7 @@ fn of_h(to: Stdout) -> io::Result<u32>
     let mut refs = [0u32; 4];
     bw_read_text(text, &mut nodes, &mut edges, &mut refs);
     let mut mended = edges;
-    let unchanged = answered(0, 0, 0);
+    let unchanged = Answered::new(0, 0, 0);
     let snapshots = snapshots_of_h(to, &nodes, &edges, &refs)?;
     let repair = repair_is(to, b"H", &nodes, &mut mended, unchanged, &edges)?;
     let texts = texts_of_h(to, text, &nodes, &edges, &refs)?;
@@ -276,8 +221,8 @@ fn of_the_root_alone(to: Stdout) -> io::Result<u32>
     ensures { IfOk result (λ n. n ≤ 2) }
 {
     let root = [0u32, 1, 0];
-    let early = answered(23, 6, 0);
-    let shown = answered(0, 7, 1);
+    let early = Answered::new(23, 6, 0);
+    let shown = Answered::new(0, 7, 1);
     let one_row = [0, N, N, U, U, U, U, U, U, U, U, U];
     let before = snapshot_is(
         to,
@@ -309,8 +254,8 @@ fn of_labels(to: Stdout) -> io::Result<u32>
     ensures { IfOk result (λ n. n ≤ 2) }
 {
     let nodes = [0u32, 1, 0, 1, 1, 0];
-    let stands = answered(0, 0, 0);
-    let broken = answered(4, 0, 0);
+    let stands = Answered::new(0, 0, 0);
+    let broken = Answered::new(4, 0, 0);
     let one = check_is(to, b"label [8,8]", &nodes, &[0, 1, 8, 8], stands)?;
     let other = check_is(to, b"label [9,8]", &nodes, &[0, 1, 9, 8], broken)?;
     Ok(one + other)
@@ -329,10 +274,8 @@ fn element_number(k: usize) -> u32
 fn put_elements(nodes: &mut [u32])
     ensures { (k : ℕ) → k < length nodes.old → get_or nodes.new k 0 ≡ elements k }
 {
-    let mut i = 0;
-    while i < nodes.len() {
-        nodes[i] = element_number(i);
-        i += 1;
+    for (i, number) in nodes.iter_mut().enumerate() {
+        *number = element_number(i);
     }
 }
 
@@ -344,8 +287,8 @@ fn of_sizes(to: Stdout) -> io::Result<u32>
     let mut more = [0u32; 3075];
     put_elements(&mut most);
     put_elements(&mut more);
-    let stands = answered(0, 0, 0);
-    let out_of_size = answered(1, 0, 0);
+    let stands = Answered::new(0, 0, 0);
+    let out_of_size = Answered::new(1, 0, 0);
     let one = check_is(to, b"1,024 nodes", &most, &[], stands)?;
     let other = check_is(to, b"1,025 nodes", &more, &[], out_of_size)?;
     Ok(one + other)

@@ -6,22 +6,23 @@
 -- Assumes nothing.
 use native.Mathlib.Omega.{arith}
 use mathlib.Core.Path.{◌≡◌, ap}
-use mathlib.Core.Bool.{true, false, false≢true}
 use mathlib.Core.Logic.{⊎_elim}
 use mathlib.Core.List.{List}
 use Prim.Native.Nat.{ℕ, ◌≤◌}
 use Rattle.ground.specs.Stores.{Put}
 use Rattle.ground.specs.Lists.{bytes, joined}
 use Rattle.ground.proofs.ListLaws.{put_nil, put_append}
-use Rattle.answers.specs.declared.Answer.{Answer}
-use Rattle.answers.specs.declared.Answer.TheVariants.{Text}
-use Rattle.answers.specs.Numbers.{numbers, refuses}
+use Rattle.answers.specs.Answers.{Answer}
+use Rattle.answers.specs.Answers.{Text}
+use Rattle.answers.specs.Numbers.{says, numbers}
 use Rattle.tables.specs.Tables.{Now}
 use Rattle.lines.specs.Lines.{number_text, numbers_text, one_line}
 use Rattle.lines.proofs.WriteLaws.{one_short}
-use Rattle.text.specs.declared.read.TextReading.{TextReading}
+use Rattle.text.specs.declared.forms.Counts.{Counts}
+use Rattle.answers.specs.declared.Refusal.{Refusal}
+use Rattle.std.specs.Prelude.{Ok, Err}
 use Rattle.text.specs.Text.{commas}
-use Rattle.text.specs.Answers.{Read, wrong_text, no_room, took}
+use Rattle.text.specs.Answers.{Read, wrong_text, no_room}
 use Rattle.text.proofs.TieLaws.{sizes_of}
 use Rattle.text.proofs.RoomLaws.{Most, most_fits}
 use Rattle.text.proofs.RoundTrip.{accepted_unique, accepted_or_not, place_unique}
@@ -31,18 +32,13 @@ use Rattle.verdict.proofs.CheckedLaws.{checked_unique, checked_exists}
 use Rattle.check_history.specs.Says.{Says, unread, read, printed, most_output}
 
 module _ {s n e f : List ℕ} where
-  pub unread_says : {r : TextReading} {n' e' f' : List ℕ} → Read s n e f r n' e' f' → Most n e f
-      → refuses r.answer ≡ true
-      → Says s r.answer
-  unread_says (wrong_text x p) m c = unread x p
-  unread_says (no_room a x) m c = absurd (short_not_fits x (most_fits m (sizes_of a.lendable)))
-  unread_says (took a h) m c = absurd (false≢true c)
+  pub unread_says : {x : Refusal} {n' e' f' : List ℕ} → Read s n e f (Err x) n' e' f' → Most n e f → Says s (Err x)
+  unread_says (wrong_text x p) m = unread x p
+  unread_says (no_room a x) m = absurd (short_not_fits x (most_fits m (sizes_of a.lendable)))
 
-  pub read_says : {r : TextReading} {n' e' f' : List ℕ} {a : Answer} → Read s n e f r n' e' f'
-      → refuses r.answer ≡ false
-      → Checked (fronts r n' e' f') a
-      → Says s a
-  read_says w c h = read (read_fronts w c) h
+  pub read_says : {c : Counts} {n' e' f' : List ℕ} {a : Answer} → Read s n e f (Ok c) n' e' f'
+      → Checked (fronts c n' e' f') a → Says s a
+  read_says w h = read (read_fronts w) h
 
 pub says_unique : {s : List ℕ} {a b : Answer} → Says s a → Says s b → a ≡ b
 says_unique {s} (unread x p) (unread y q) = ap Text (place_unique s _ _ p q)
@@ -60,10 +56,9 @@ says_exists s =
 -- three lines that were put one after the other
 module _ {out x y out' : List ℕ} {c i p l m n : ℕ} (first : Put out 0 (one_line (bytes "code=") c) x l)
     (second : Put x l (one_line (bytes "instant=") i) y m) (third : Put y m (one_line (bytes "place=") p) out' n) where
-  pub put_printed : (a : Answer) → c ≡ (numbers a).code → i ≡ (numbers a).instant → p ≡ (numbers a).place
-      → Put out 0 (printed a) out' n
+  pub put_printed : (a : Answer) → says c i p ≡ numbers a → Put out 0 (printed a) out' n
   unfolding joined commas numbers_text number_text
-  put_printed a e f g = rw (← e, ← f, ← g) (put_append first (put_append second (put_append third (put_nil _ _))))
+  put_printed a e = rw (← e) (put_append first (put_append second (put_append third (put_nil _ _))))
 
   pub printed_most : c ≤ Now → i ≤ Now → p ≤ Now → n ≤ most_output
   printed_most a b d =

@@ -10,8 +10,8 @@
 use Rattle.std.specs.Prelude.{List, [], ◌∷◌, ℕ, ◌*◌, ◌≤◌, ◌<◌, length}
 use Rattle.ground.specs.Stores.{Put}
 use Rattle.ground.specs.Lists.{joined}
-use Rattle.answers.specs.declared.Answer.{Answer}
-use Rattle.answers.specs.declared.Answer.TheVariants.{Text}
+use Rattle.answers.specs.Answers.{Answer}
+use Rattle.answers.specs.Answers.{Text}
 use Rattle.answers.specs.Numbers.{numbers}
 use Rattle.tables.specs.Tables.{Tables}
 use Rattle.decimals.specs.Decimals.{dec}

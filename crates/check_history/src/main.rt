@@ -6,10 +6,11 @@ ghost use Rattle.std.specs.Prelude.{◌≡◌, ◌+◌, ◌≤◌, length, take,
 ghost use Rattle.ground.specs.Stores.{Put};
 ghost use Rattle.check_history.specs.Says.{Says, Prints, most_input, most_output, printed, Reported};
 
-use answers::Answer;
+use answers::{Answer, Answered, Refusal};
 use lines::write::write_one;
 use std::io;
 use std::io::{Print, Read, Stdin};
+use tables::lent::{Table, Tables};
 use tables::rows::{EDGE_WIDTH, NODE_WIDTH, REF_WIDTH};
 use tables::sizes::{MOST_EDGES, MOST_NODES, MOST_REFS};
 use text::read::read_text;
@@ -24,21 +25,29 @@ const MOST_OUTPUT: usize = 288;
 fn answer(text: &[u8]) -> Answer
     ensures { Says text.now result }
 {
+    // No heap: as many as there can be.
     let mut nodes = [0u32; MOST_NODES * NODE_WIDTH];
     let mut edges = [0u32; MOST_EDGES * EDGE_WIDTH];
     let mut refs = [0u32; MOST_REFS * REF_WIDTH];
-    let r = read_text(text, &mut nodes, &mut edges, &mut refs);
-    let said = r.answer;
-    if said.refuses() {
-        return said;
-    }
-    let n = r.nodes as usize;
-    let m = r.edges as usize;
-    let k = r.refs as usize;
-    let a = n * NODE_WIDTH;
-    let b = m * EDGE_WIDTH;
-    let c = k * REF_WIDTH;
-    check(r.start, &nodes[..a], n, &edges[..b], m, &refs[..c], k)
+    let counts = read_text(text, &mut nodes, &mut edges, &mut refs)?;
+    let n = counts.nodes as usize;
+    let m = counts.edges as usize;
+    let k = counts.refs as usize;
+    check(&Tables {
+        start: counts.start,
+        nodes: Table {
+            numbers: &nodes[..n * NODE_WIDTH],
+            count: n,
+        },
+        edges: Table {
+            numbers: &edges[..m * EDGE_WIDTH],
+            count: m,
+        },
+        refs: Table {
+            numbers: &refs[..k * REF_WIDTH],
+            count: k,
+        },
+    })
 }
 
 // What the input answers. A text that is longer than may be read is not looked at.
@@ -48,7 +57,7 @@ fn answer_input(input: &[u8]) -> Answer
     if input.len() <= MOST_INPUT {
         answer(input)
     } else {
-        Answer::Text(MOST_INPUT as u32)
+        Err(Refusal::Text(MOST_INPUT as u32))
     }
 }
 
@@ -57,12 +66,14 @@ fn write_answer(out: &mut [u8], said: Answer) -> usize
     requires { length out.old ≡ most_output }
     ensures { Put out.old 0 (printed said) out.new result × (result ≤ most_output) }
 {
-    let a = write_one(out, 0, b"code=", said.code());
-    let b = write_one(out, a, b"instant=", said.instant());
-    write_one(out, b, b"place=", said.place())
+    let told = Answered::from(said);
+    let a = write_one(out, 0, b"code=", told.code);
+    let b = write_one(out, a, b"instant=", told.instant);
+    write_one(out, b, b"place=", told.place)
 }
 
-// What is printed of the first n bytes of a buffer: one byte more than may be read tells a longer input.
+// What is printed of the first n bytes of a buffer: one byte more than may be read tells a longer input. The buffer is
+// lent whole, with n beside it, since its length is part of the promise (`Reported`).
 fn report(buffer: &[u8], n: usize, out: &mut [u8]) -> usize
     requires { (length buffer.now ≡ most_input + 1) × (n ≤ length buffer.now) × (length out.old ≡ most_output) }
     ensures { Reported (take n buffer.now) out.old out.new result }
@@ -71,7 +82,8 @@ fn report(buffer: &[u8], n: usize, out: &mut [u8]) -> usize
     write_answer(out, said)
 }
 
-// Reads until the buffer is full or the input ends, and returns how many bytes were put at the front.
+// Reads until the buffer is full or the input ends, and returns how many bytes were put at the front. What stands in
+// place of a loop here, std's `read_exact`, refuses an input that is shorter.
 fn read_full(mut input: Stdin, buffer: &mut [u8]) -> io::Result<usize>
     ensures ok { IfOk result (λ n. n ≤ length buffer.new) }
     ensures err { OnErr result (length buffer.new ≡ length buffer.old) }
@@ -88,6 +100,7 @@ fn read_full(mut input: Stdin, buffer: &mut [u8]) -> io::Result<usize>
 }
 
 fn main(rt: HostRuntime) -> io::Result<()> {
+    // No heap: one byte more than may be read, and three lines.
     let mut buffer = [0u8; MOST_INPUT + 1];
     let n = read_full(rt.stdin(), &mut buffer)?;
     let mut out = [0u8; MOST_OUTPUT];

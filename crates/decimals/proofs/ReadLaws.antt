@@ -1,19 +1,20 @@
 -- Reading a number. One step at a place of the text; then what was written is read (`num_of`), what is read is the
--- decimal of the number (`num_is`), the longest there is (`num_longest`), and Missing says that none stands there
+-- decimal of the number (`num_is`), the longest there is (`num_longest`), and no_number says that none stands there
 -- (`num_none`). Assumes nothing.
 use mathlib.Core.Bool.{true, false}
 use mathlib.Core.List.{List, [], ◌∷◌, ◌++◌, append_assoc}
+use mathlib.Core.Logic.{◌⊎◌}
 use mathlib.Core.Path.{◌≡◌, refl, sym, ap, ◌∙◌}
 use Prim.Native.Nat.{ℕ, zero, suc, ◌+◌, ◌-◌, ◌*◌, ◌/◌, ◌%◌, ◌≤◌, ◌<◌}
 use native.Mathlib.Omega.{arith}
-use lib.Dec.{ltb, eqb}
+use lib.Dec.{leb, ltb, eqb}
 use lib.ListN.{length, get_or, drop, drop_of_length-le, length-append}
 use borrow.Author.Tests.{lt-ltb, le-ltb, le-leb, ltb-false, leb-true, eqb-true, eqb-false, ne_eqb}
-use Rattle.ground.proofs.TestLaws.{by_test}
+use Rattle.ground.proofs.TestLaws.{by_test, by_lt}
 use Rattle.ground.proofs.ListLaws.{drop_step}
 use Rattle.decimals.specs.Decimals.{nought, dec}
-use Rattle.decimals.specs.Reads.{nine, grows, more, num, num_at}
-use Rattle.decimals.specs.declared.Num.TheVariants.{Is, Missing}
+use Rattle.decimals.specs.declared.Number.{Number}
+use Rattle.decimals.specs.Reads.{number, no_number, nine, grows, more, num, num_at}
 use Rattle.decimals.proofs.DecimalLaws.{by_digits, dec_small, dec_snoc, dec_more, dec_length_snoc, dec_pos}
 
 pub record Grows (hi v c : ℕ) : Type 0 where
@@ -39,6 +40,23 @@ unfolding grows
 grows_is hi v c g =
     simp (le-ltb c nought g.low, le-ltb nine c g.high, le-leb (v * 10 + (c - nought)) hi g.small)
 
+-- the test, with a digit's bounds as std has them
+pub grows_digit : (hi v c : ℕ) → (48 ≤ c) × (c ≤ 57) → leb (v * 10 + (c - 48)) hi ≡ grows hi v c
+unfolding grows
+grows_digit hi v c (low, high) = simp (le-ltb c nought low, le-ltb nine c high)
+
+pub grows_not : (hi v c : ℕ) → (c < 48) ⊎ (57 < c) → false ≡ grows hi v c
+unfolding grows
+grows_not hi v c h =
+    by_lt c nought
+    (λ l. simp (lt-ltb c nought l))
+    (λ l. simp (le-ltb c nought l, lt-ltb nine c (omega (arith, h))))
+
+pub number_same : {v n u m : ℕ} → number v n ≡ number u m → (v ≡ u) × (n ≡ m)
+number_same {v} {n} {u} {m} e =
+    let r : ◌≡◌ {A = Number} (record { value = v; after = n }) (record { value = u; after = m }) = cc in
+    (ap (λ (x : Number). x.value) r, ap (λ (x : Number). x.after) r)
+
 -- v has been read up to place i, and reading goes on from there
 pub record ReadSoFar (hi first : ℕ) (s : List ℕ) (at v i : ℕ) : Type 0 where
   pub rest : more hi first at (drop at s) ≡ more hi v i (drop i s)
@@ -50,20 +68,20 @@ module _ {hi first : ℕ} {s : List ℕ} {at v i : ℕ} (r : ReadSoFar hi first 
   unfolding more
   more_turn h g = record { rest = r.rest ∙ rw (drop_step s i h, g); small = (grows_true hi v (get_or s i 0) g).small }
 
-  pub more_stop : i < length s → grows hi v (get_or s i 0) ≡ false → Is v i ≡ more hi first at (drop at s)
+  pub more_stop : i < length s → grows hi v (get_or s i 0) ≡ false → number v i ≡ more hi first at (drop at s)
   unfolding more
   more_stop h g = sym (r.rest ∙ rw (drop_step s i h, g))
 
-  pub more_end : length s ≤ i → Is v i ≡ more hi first at (drop at s)
+  pub more_end : length s ≤ i → number v i ≡ more hi first at (drop at s)
   unfolding more
   more_end h = sym (r.rest ∙ rw (drop_of_length-le s h))
 
 module _ (hi : ℕ) (s : List ℕ) (i : ℕ) where
-  pub num_end : length s ≤ i → num_at hi s i ≡ Missing i
+  pub num_end : length s ≤ i → num_at hi s i ≡ no_number i
   unfolding num_at num
   num_end h = rw (drop_of_length-le s h)
 
-  pub num_zero : i < length s → get_or s i 0 ≡ nought → num_at hi s i ≡ Is 0 (i + 1)
+  pub num_zero : i < length s → get_or s i 0 ≡ nought → num_at hi s i ≡ number 0 (i + 1)
   unfolding num_at num
   num_zero h e = rw (drop_step s i h, e)
 
@@ -73,7 +91,7 @@ module _ (hi : ℕ) (s : List ℕ) (i : ℕ) where
   num_more h n g = rw (drop_step s i h, ne_eqb (get_or s i 0) nought n, g)
 
   pub num_missing : i < length s → (get_or s i 0 ≡ nought → ⊥) → grows hi 0 (get_or s i 0) ≡ false
-      → num_at hi s i ≡ Missing i
+      → num_at hi s i ≡ no_number i
   unfolding num_at num
   num_missing h n g = rw (drop_step s i h, ne_eqb (get_or s i 0) nought n, g)
 
@@ -113,13 +131,13 @@ head_last hi i v b ih ys p h =
 num_head : (hi i v : ℕ) → HeadRead hi i v
 num_head hi i = by_digits (HeadRead hi i) (head_one hi i) (head_last hi i)
 
-more_stops : (hi v i c : ℕ) (ys : List ℕ) → c < nought → more hi v i (c ∷ ys) ≡ Is v i
+more_stops : (hi v i c : ℕ) (ys : List ℕ) → c < nought → more hi v i (c ∷ ys) ≡ number v i
 unfolding more grows
 more_stops hi v i c ys h = rw (lt-ltb c nought h)
 
 -- the decimal of v, and then a byte below the digits: v is read
 pub num_of : (hi i v c : ℕ) (ys : List ℕ) → v ≤ hi → c < nought
-    → num hi i (dec v ++ (c ∷ ys)) ≡ Is v (i + length (dec v))
+    → num hi i (dec v ++ (c ∷ ys)) ≡ number v (i + length (dec v))
 unfolding num
 num_of hi i zero c ys h l = rw (dec_small 0 (omega arith))
 num_of hi i (suc v) c ys h l =
@@ -134,13 +152,12 @@ record MoreIs (hi v i : ℕ) (xs : List ℕ) (u n : ℕ) : Type 0 where
   long : length (dec u) ≡ length (dec v) + k
   stands : dec v ++ xs ≡ dec u ++ drop k xs
 
-more_here : (hi v i : ℕ) (xs : List ℕ) (u n : ℕ) → v ≤ hi → Is v i ≡ Is u n → MoreIs hi v i xs u n
+more_here : (hi v i : ℕ) (xs : List ℕ) (u n : ℕ) → v ≤ hi → number v i ≡ number u n → MoreIs hi v i xs u n
 more_here hi v i xs u n h e =
-    let a : v ≡ u = cc in
-    let b : i ≡ n = cc in
+    let (a, b) = number_same e in
     record { k = 0; small = omega arith; after = omega arith; long = rw a (omega arith); stands = rw a }
 
-more_is : (hi v i : ℕ) (xs : List ℕ) (u n : ℕ) → 1 ≤ v → v ≤ hi → more hi v i xs ≡ Is u n → MoreIs hi v i xs u n
+more_is : (hi v i : ℕ) (xs : List ℕ) (u n : ℕ) → 1 ≤ v → v ≤ hi → more hi v i xs ≡ number u n → MoreIs hi v i xs u n
 unfolding more
 more_is hi v i [] u n p h e = more_here hi v i [] u n h e
 more_is hi v i (c ∷ xs) u n p h e =
@@ -159,7 +176,7 @@ more_is hi v i (c ∷ xs) u n p h e =
     (λ t. more_here hi v i (c ∷ xs) u n h (rw t at e))
 
 num_first : (hi i c : ℕ) (xs : List ℕ) (v n : ℕ) → 1 ≤ c - nought → Grows hi 0 c
-    → more hi (c - nought) (i + 1) xs ≡ Is v n → NumIs hi i (c ∷ xs) v n
+    → more hi (c - nought) (i + 1) xs ≡ number v n → NumIs hi i (c ∷ xs) v n
 num_first hi i c xs v n p g e =
     let m = more_is hi (c - nought) (i + 1) xs v n p (omega arith) e in
     let one : dec (c - nought) ≡ c ∷ [] = dec_small (c - nought) (omega arith)
@@ -171,14 +188,13 @@ num_first hi i c xs v n p g e =
       stands = ap (λ (r : List ℕ). r ++ xs) (sym one) ∙ m.stands ∙ rw k;
     }
 
-num_nought : (hi i c : ℕ) (xs : List ℕ) (v n : ℕ) → c ≡ nought → Is 0 (i + 1) ≡ Is v n → NumIs hi i (c ∷ xs) v n
+num_nought : (hi i c : ℕ) (xs : List ℕ) (v n : ℕ) → c ≡ nought → number 0 (i + 1) ≡ number v n → NumIs hi i (c ∷ xs) v n
 num_nought hi i c xs v n z e =
-    let a : 0 ≡ v = cc in
-    let b : i + 1 ≡ n = cc in
+    let (a, b) = number_same e in
     let d : dec v ≡ nought ∷ [] = ap dec (sym a) ∙ dec_small 0 (omega arith) in
     record { small = omega arith; after = omega (arith, ap length d); stands = rw (d, z) }
 
-pub num_is : (hi i : ℕ) (xs : List ℕ) (v n : ℕ) → num hi i xs ≡ Is v n → NumIs hi i xs v n
+pub num_is : (hi i : ℕ) (xs : List ℕ) (v n : ℕ) → num hi i xs ≡ number v n → NumIs hi i xs v n
 unfolding num
 num_is hi i [] v n e = let z : ◌≡◌ {A = ℕ} 0 1 = cc in absurd (omega arith)
 num_is hi i (c ∷ xs) v n e =
@@ -189,16 +205,16 @@ num_is hi i (c ∷ xs) v n e =
     (rw (t, q) at e))
     (λ q. let f = rw (t, q) at e in let z : ◌≡◌ {A = ℕ} 0 1 = cc in absurd (omega arith)))
 
--- ---- the answer is the longest decimal of a number at most hi that begins the bytes; Missing says that none does
+-- ---- the answer is the longest decimal of a number at most hi that begins the bytes; no_number says that none does
 
-more_some : (hi v i : ℕ) (xs : List ℕ) → (u : ℕ) × (n : ℕ) × (more hi v i xs ≡ Is u n)
+more_some : (hi v i : ℕ) (xs : List ℕ) → (u : ℕ) × (n : ℕ) × (more hi v i xs ≡ number u n)
 unfolding more
 more_some hi v i [] = (v, i, refl)
 more_some hi v i (c ∷ xs) =
     let r = more_some hi (v * 10 + (c - nought)) (i + 1) xs in
     by_test (grows hi v c) (λ t. (r.0, r.1, rw t r.2)) (λ t. (v, i, rw t))
 
-pub num_longest : (hi i : ℕ) (xs : List ℕ) (v n : ℕ) → num hi i xs ≡ Is v n → (u : ℕ) (ys : List ℕ) → u ≤ hi
+pub num_longest : (hi i : ℕ) (xs : List ℕ) (v n : ℕ) → num hi i xs ≡ number v n → (u : ℕ) (ys : List ℕ) → u ≤ hi
     → xs ≡ dec u ++ ys → length (dec u) ≤ length (dec v)
 num_longest hi i xs v n e zero ys h q = omega (arith, ap length (dec_small 0 (omega arith)), dec_pos v)
 num_longest hi i xs v n e (suc u) ys h q =
@@ -206,15 +222,15 @@ num_longest hi i xs v n e (suc u) ys h q =
     (sym (num_head hi i (suc u) ys (omega arith) h) ∙ ap (num hi i) (sym q) ∙ e) in
     omega (arith, m.long)
 
-pub num_none : (hi i : ℕ) (xs : List ℕ) (p : ℕ) → num hi i xs ≡ Missing p → (u : ℕ) (ys : List ℕ) → u ≤ hi
+pub num_none : (hi i : ℕ) (xs : List ℕ) (p : ℕ) → num hi i xs ≡ no_number p → (u : ℕ) (ys : List ℕ) → u ≤ hi
     → xs ≡ dec u ++ ys → ⊥
 unfolding num
 num_none hi i xs p e zero ys h q =
-    let z₁ : num hi i (nought ∷ ys) ≡ Missing p = ap (num hi i)
+    let z₁ : num hi i (nought ∷ ys) ≡ no_number p = ap (num hi i)
     (sym (q ∙ ap (λ (r : List ℕ). r ++ ys) (dec_small 0 (omega arith)))) ∙ e in
     let z : ◌≡◌ {A = ℕ} 0 1 = cc in omega arith
 num_none hi i xs p e (suc u) ys h q =
     let m = more_some hi (suc u) (i + length (dec (suc u))) ys in
-    let z₁ : Is m.0 m.1 ≡ Missing p = sym m.2 ∙ sym (num_head hi i (suc u) ys (omega arith) h)
+    let z₁ : number m.0 m.1 ≡ no_number p = sym m.2 ∙ sym (num_head hi i (suc u) ys (omega arith) h)
     ∙ ap (num hi i) (sym q) ∙ e in
     let z : ◌≡◌ {A = ℕ} 0 1 = cc in omega arith

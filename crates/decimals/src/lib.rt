@@ -1,72 +1,67 @@
 // Decimals: how many bytes one has, writing one, reading the longest one of a number at most a bound.
 #![tactic(auto)]
 
-ghost use Rattle.std.specs.Prelude.{◌≡◌, ◌+◌, ◌≤◌, length, drop};
+ghost use Rattle.std.specs.Prelude.{◌≡◌, ◌+◌, ◌≤◌, length, drop, Ok};
 ghost use Rattle.decimals.specs.Decimals.{dec};
 ghost use Rattle.decimals.specs.Reads.{grows, more, num_at};
 ghost use Rattle.ground.specs.Stores.{Put};
 
-// A number that was read, with the place after it; or none stands there, and what stands there begins one up to this
-// place.
-#[derive(Clone, Copy)]
-pub enum Num {
-    Is(u32, usize),
-    Missing(usize),
+// A number that was read, and the place after it.
+#[derive(Clone, Copy, Debug, PartialEq, Eq)]
+pub struct Number {
+    pub value: u32,
+    pub after: usize,
 }
 
-fn wide(b: u8) -> u64
-    ensures { result ≡ b }
-{
-    b as u64
+// What must stand there does not; what stands there begins it up to this place.
+#[derive(Clone, Copy, Debug, PartialEq, Eq)]
+pub struct Wrong {
+    pub at: usize,
 }
 
 // Whether the byte c is a digit, and v with that digit after it is at most hi.
 fn grows(hi: u32, v: u32, c: u8) -> bool
     ensures { result ≡ grows hi v c }
 {
-    if c < b'0' {
-        return false;
-    }
-    if b'9' < c {
-        return false;
-    }
-    (v as u64) * 10 + wide(c - b'0') <= hi as u64
+    c.is_ascii_digit() && u64::from(v) * 10 + u64::from(c - b'0') <= u64::from(hi)
 }
 
-// The digits from place at on are read after v, while the number stays at most hi.
-fn read_more(text: &[u8], at: usize, hi: u32, first: u32) -> Num
+// The digits from place at on are read after those of first, while the number stays at most hi.
+fn read_more(text: &[u8], at: usize, hi: u32, first: u32) -> Number
     requires { first ≤ hi }
-    ensures { result ≡ more hi first at (drop at text.now) }
+    ensures { Ok result ≡ more hi first at (drop at text.now) }
 {
-    let mut v = first;
-    let mut i = at;
-    while i < text.len() {
-        let c = text[i];
-        if grows(hi, v, c) {
-            v = v * 10 + (c - b'0') as u32;
-            i += 1;
-        } else {
-            return Num::Is(v, i);
+    let mut value = first;
+    for after in at..text.len() {
+        let c = text[after];
+        if !grows(hi, value, c) {
+            return Number { value, after };
         }
+        value = value * 10 + u32::from(c - b'0');
     }
-    Num::Is(v, i)
+    Number {
+        value,
+        after: at.max(text.len()),
+    }
 }
 
 // The longest decimal of a number at most hi that stands at place at.
-pub fn read_decimal(text: &[u8], at: usize, hi: u32) -> Num
+pub fn read_decimal(text: &[u8], at: usize, hi: u32) -> Result<Number, Wrong>
     ensures { result ≡ num_at hi text.now at }
 {
-    if text.len() <= at {
-        return Num::Missing(at);
-    }
-    let c = text[at];
+    let Some(&c) = text.get(at) else {
+        return Err(Wrong { at });
+    };
     if c == b'0' {
-        return Num::Is(0, at + 1);
+        return Ok(Number {
+            value: 0,
+            after: at + 1,
+        });
     }
     if grows(hi, 0, c) {
-        read_more(text, at + 1, hi, (c - b'0') as u32)
+        Ok(read_more(text, at + 1, hi, u32::from(c - b'0')))
     } else {
-        Num::Missing(at)
+        Err(Wrong { at })
     }
 }
 
@@ -83,7 +78,8 @@ pub fn decimal_width(v: u32) -> usize
     w
 }
 
-// Puts the decimal of v at place at, and returns the place after it. The digits are stored from the last on.
+// Puts the decimal of v at place at, and returns the place after it. The digits are stored from the last on, and the
+// place is counted by hand: by `for place in (at..end).rev()` write text took 1.42 of plain Rust's time, not 0.99.
 pub fn write_decimal(out: &mut [u8], at: usize, v: u32) -> usize
     requires { at + length (dec v) ≤ length out.old }
     ensures { Put out.old at (dec v) out.new result }

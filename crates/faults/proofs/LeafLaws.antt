@@ -1,4 +1,4 @@
--- What the slots, the bounds and the walks tell of the rows: each leaf's test tells its line of the table. Assumes
+-- What the slots, the spans and the walks tell of the rows: each leaf's test tells its line of the table. Assumes
 -- nothing.
 use mathlib.Core.Path.{◌≡◌, refl, sym, ap, ◌∙◌}
 use mathlib.Core.Logic.Iff
@@ -15,8 +15,9 @@ use Rattle.tables.specs.Rules.{most_nodes}
 use Rattle.history.specs.Faults.{Into, Out, Ended, Coming, NoneInto, Chain, Overlap, Gap, Outside, Cycle}
 use Rattle.history.specs.Places.{Leads, NodesBelow}
 use Rattle.history.proofs.ComputedLaws.{leads_into, into_leads}
+use Rattle.faults.specs.declared.spans.Span.{Span}
 use Rattle.faults.specs.Slots.{Many, Slot, empty, single, several, Slots}
-use Rattle.faults.specs.Spans.{Span}
+use Rattle.faults.specs.Spans.{span_at, Spanned}
 use Rattle.faults.specs.Walks.{above, climb, Back}
 use Rattle.faults.specs.Leaves.{is_many, is_absent_of, is_gap_of, Parts}
 use Rattle.faults.proofs.WalkLaws.{above_in, climb_none, climb_suc, climb_stays}
@@ -76,8 +77,8 @@ module _ {m : ℕ} {E : ℕ → EdgeRow} {t n : ℕ} {up : List ℕ} (v : View m
 
   -- GAP: of an absent node, a row ended exactly if the first start is before t, and one comes exactly if the last end
   -- is after t
-  module _ (now : t ≤ Now) (ordered : (j : ℕ) → j < m → (E j).from ≤ (E j).to) (c first last : ℕ)
-      (stay : Span E c m first last) (away : NoneInto m E t c) where
+  module _ (now : t ≤ Now) (ordered : (j : ℕ) → j < m → (E j).from ≤ (E j).to) (c : ℕ)
+      (span : Span) (stay : Spanned E c m span) (away : NoneInto m E t c) where
     ended_row : (j : ℕ) → j < m → (E j).child ≡ c → (E j).from < t → (E j).to < t
     ended_row j h e l = go (dec_le t (E j).to)
       where
@@ -92,30 +93,31 @@ module _ {m : ℕ} {E : ℕ → EdgeRow} {t n : ℕ} {up : List ℕ} (v : View m
         go (yes g) = absurd (away j (leads_into m E t c j h (e, (g, omega arith))))
         go (no g) = omega arith
 
-    first_ended : (first < t) ↔ ((i : ℕ) × Ended m E t c i)
+    first_ended : (span.first < t) ↔ ((i : ℕ) × Ended m E t c i)
     first_ended = (
       λ l. ⊎_elim (λ q. absurd (omega arith))
           (λ (j, h, (e, q)). (j, record { row = h; into = e; past = ended_row j h e (omega arith) })) stay.starts,
       λ (i, p). omega (arith, stay.none_sooner i p.row p.into, ordered i p.row, p.past),
     )
 
-    last_coming : (t < last) ↔ ((i : ℕ) × Coming m E t c i)
+    last_coming : (t < span.last) ↔ ((i : ℕ) × Coming m E t c i)
     last_coming = (
       λ l. ⊎_elim (λ q. absurd (omega arith))
           (λ (j, h, (e, q)). (j, record { row = h; into = e; ahead = coming_row j h e (omega arith) })) stay.ends,
       λ (i, p). omega (arith, stay.none_later i p.row p.into, ordered i p.row, p.ahead),
     )
 
-  pub gap_tells : t ≤ Now → ((j : ℕ) → j < m → (E j).from ≤ (E j).to) → (c : ℕ) → c < n → (first last : List ℕ)
-      → Span E c m (get_or first c 0) (get_or last c 0)
-      → Tells (is_gap_of up first last t c) (Gap m E t c)
-  gap_tells now ordered c l first last stay =
+  pub gap_tells : t ≤ Now → ((j : ℕ) → j < m → (E j).from ≤ (E j).to) → (c : ℕ) → c < n → (spans : List Span)
+      → Spanned E c m (span_at spans c) → Tells (is_gap_of up spans t c) (Gap m E t c)
+  gap_tells now ordered c l spans stay =
       Iff.trans (tells_and _ _ (absent_tells c l)
-      (tells_and _ _ (tells_lt (get_or first c 0) t) (tells_lt t (get_or last c 0)))) (
+      (tells_and _ _ (tells_lt (span_at spans c).first t) (tells_lt t (span_at spans c).last))) (
         λ ((ne, away), (f, g)).
-            (ne, away, (first_ended now ordered c _ _ stay away).0 f, (last_coming now ordered c _ _ stay away).0 g),
-        λ (ne, away, f, g).
-            ((ne, away), ((first_ended now ordered c _ _ stay away).1 f, (last_coming now ordered c _ _ stay away).1 g)),
+            (ne, away, (first_ended now ordered c _ stay away).0 f, (last_coming now ordered c _ stay away).0 g),
+        λ (ne, away, f, g). (
+          (ne, away),
+          ((first_ended now ordered c _ stay away).1 f, (last_coming now ordered c _ stay away).1 g),
+        ),
       )
 
   -- OUTSIDE: an absent node that is a slot has a row out of it

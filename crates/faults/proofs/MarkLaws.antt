@@ -1,18 +1,17 @@
 -- The marks of a walk up: at its start, after a step, at its end. Assumes nothing.
-use mathlib.Core.Path.{◌≡◌, refl, sym, ap, ◌∙◌}
+use mathlib.Core.Path.{◌≡◌, sym, ap, ◌∙◌}
 use mathlib.Core.Logic.{◌⊎◌, inl, inr}
 use mathlib.Core.List.{List, [], ◌∷◌}
 use Prim.Native.Nat.{ℕ, zero, suc, ◌+◌, ◌≤◌, ◌<◌}
 use native.Mathlib.Decide.{ℕ_discrete}
 use native.Mathlib.Omega.{arith}
-use borrow.Author.Count.{below_more}
 use lib.ListN.{length, get_or, set, replicate, get_or-replicate, length-replicate, length-set}
 use lib.Seq.{get_or-set_same, get_or-set_other}
 use Rattle.tables.specs.Tables.{no_node}
 use Rattle.tables.specs.Rules.{most_nodes}
 use Rattle.faults.specs.Walks.{above, climb}
-use Rattle.faults.specs.Marks.{RunsOut, NoBack, SomeBack, Done, MarksStay, Marked}
-use Rattle.faults.proofs.WalkLaws.{above_in, climb_none, climb_add, climb_one, climb_next, ends_no_back}
+use Rattle.faults.specs.Marks.{RunsOut, NoBack, Done, MarksStay, Marked}
+use Rattle.faults.proofs.WalkLaws.{above_in, climb_add, climb_one, climb_next, ends_no_back}
 
 -- how many elements are 0: it falls with each mark
 unfoldable pub zeros : List ℕ → ℕ
@@ -43,9 +42,6 @@ module _ (up : List ℕ) (n : ℕ) where
   reaches_ends : (k x : ℕ) → Reaches k x → RunsOut up n x → RunsOut up n k
   reaches_ends k x (d, e) (f, o) = (suc d + f, rw (climb_add up n (suc d) f k, e) o)
 
-  pub ends_here : (b : ℕ) → n ≤ b → RunsOut up n b
-  ends_here b l = (0, rw (climb_none up n b) l)
-
   -- within a walk from start that has come to x. The marks of this walk are start + 1
   pub record Walking (start : ℕ) (old mark : List ℕ) (x : ℕ) : Type 0 where
     pub long : length mark ≡ length old
@@ -61,16 +57,6 @@ module _ (up : List ℕ) (n : ℕ) where
     pub walking : Walking start old mark x
 
   module _ {start : ℕ} {old : List ℕ} where
-    pub walk_starts : Done up n start old → Walking start old old start
-    walk_starts d =
-        record {
-          long = refl;
-          others = λ k l z o. d k l z;
-          ours = λ k l e. absurd (omega (arith, (d k l (λ z. omega arith)).1));
-          kept = λ k l z. z;
-          from = inl refl;
-        }
-
     -- x is not marked: it is marked, and the walk goes on above it
     module _ {mark : List ℕ} {x : ℕ} (w : Walking start old mark x) (lx : x < n) (lm : n ≤ length mark) where
       same : get_or (set mark x (start + 1)) x 0 ≡ start + 1
@@ -95,7 +81,8 @@ module _ (up : List ℕ) (n : ℕ) where
       steps_ours k l q (yes e) = rw (← e) (reaches_one k)
       steps_ours k l q (no e) = reaches_next k x (w.ours k l (sym (other k e) ∙ q))
 
-      steps_kept : (k : ℕ) → k < n → (get_or old k 0 ≡ 0 → ⊥) → Dec (k ≡ x) → get_or (set mark x (start + 1)) k 0 ≡ 0 → ⊥
+      steps_kept : (k : ℕ) → k < n → (get_or old k 0 ≡ 0 → ⊥) → Dec (k ≡ x)
+          → get_or (set mark x (start + 1)) k 0 ≡ 0 → ⊥
       steps_kept k l z (yes e) q = omega (arith, at_x k e)
       steps_kept k l z (no e) q = w.kept k l z (sym (other k e) ∙ q)
 
@@ -115,10 +102,6 @@ module _ (up : List ℕ) (n : ℕ) where
             kept = λ k l z. steps_kept k l z (ℕ_discrete k x);
             from = inr (steps_from (ℕ_discrete start x) w.from);
           })
-
-      -- it has come to a node that it has marked itself: that one comes back
-      pub walk_meets : get_or mark x 0 ≡ start + 1 → SomeBack up n
-      walk_meets e = (x, lx, w.ours x lx e)
 
     -- the walk has come to x, whose walk is known to end
     pub walk_ends : {mark : List ℕ} {x : ℕ} → Walking start old mark x → RunsOut up n x
@@ -157,15 +140,5 @@ module _ (up : List ℕ) (n : ℕ) where
       }
 
   module _ {start : ℕ} {old : List ℕ} (s : Settling start old) where
-    pub settling_on : start < n → {mark : List ℕ} → length mark ≡ length old → Marked up n start old mark
-        → Settling (start + 1) mark
-    settling_on h e w =
-        record {
-          within = omega arith;
-          long = e ∙ s.long;
-          done = w.done;
-          marked = below_more _ _ (λ k l. w.kept k (omega arith) (s.marked k l)) w.here;
-        }
-
     pub settling_ends : n ≤ no_node → n ≤ start → NoBack up n
     settling_ends few h k l = ends_no_back up n few k l (s.done k l (s.marked k (omega arith))).0

@@ -11,13 +11,15 @@ use native.Mathlib.Numerals.{add-one}
 use native.Mathlib.Omega.{arith}
 use lib.ListN.{length, get_or, set, replicate, length-set, get_or-replicate, length-replicate}
 use lib.Seq.{get_or-set_same, get_or-set_other}
+use Rattle.std.specs.Prelude.{Option, None}
 use Rattle.ground.specs.Tests.{Tells}
-use Rattle.ground.specs.Least.{Any, Least}
-use Rattle.ground.specs.Searches.{Passes, least, nearer}
+use Rattle.ground.specs.Least.{Any}
+use Rattle.ground.specs.Searches.{Finds}
+use Rattle.ground.specs.Searches.{Passes, found, nearer}
 use Rattle.ground.proofs.TestLaws.{tells_fail}
-use Rattle.ground.proofs.LeastLaws.{least_nearer, least_same, least_missed, least_unique, least_tells, any_suc}
-use Rattle.tables.specs.declared.rows.Side.TheVariants.{Attribute, Target}
-use Rattle.tables.specs.Tables.{During, RefRow, ref_at}
+use Rattle.ground.proofs.LeastLaws.{finds_nearer, finds_same, finds_unique, finds_tells, any_suc}
+use Rattle.tables.specs.Rows.{Attribute, Target}
+use Rattle.tables.specs.Tables.{During, RefRow}
 use Rattle.tables.specs.Labels.{during}
 use Rattle.tables.specs.Rules.{most_nodes}
 use Rattle.tables.proofs.LabelLaws.{during_tells}
@@ -35,16 +37,17 @@ module _ (p : ℕ → Bool) where
   or_so_far j i (inr (q, e)) = (omega arith, subst (Passes p) (sym q) e)
 
   -- one place more; no place yet, and all places
-  so_far_more : {k j x : ℕ} → j < k → Least (SoFar p j) k x → Least (SoFar p (j + 1)) k (nearer x (p j) j)
-  so_far_more {j = j} h l = least_same (λ i g. or_so_far j i) (λ i g. so_far_or j i) (least_nearer (p j) h l)
+  so_far_more : {k j : ℕ} (r : Option ℕ) → j < k → Finds (SoFar p j) k r → Finds (SoFar p (j + 1)) k (nearer r (p j) j)
+  so_far_more {j = j} r h l =
+      finds_same _ (λ i g. or_so_far j i) (λ i g. so_far_or j i) (finds_nearer (SoFar p j) r (p j) (λ e. h) l)
 
-  so_far_none : {k : ℕ} → Least (SoFar p 0) k k
-  so_far_none = least_missed (SoFar p 0) (λ i h s. omega (arith, s.0))
+  so_far_none : {k : ℕ} → Finds (SoFar p 0) k None
+  so_far_none i h s = omega (arith, s.0)
 
-  so_far_all : {k x : ℕ} → Least (SoFar p k) k x → x ≡ least p k
-  so_far_all {k} l =
-      least_unique (Passes p) (least_same (λ i g s. s.1) (λ i g e. (g, e)) l)
-      (least_tells p (Passes p) k (λ i h. Iff.rfl))
+  so_far_all : (k : ℕ) (r : Option ℕ) → Finds (SoFar p k) k r → r ≡ found p k
+  so_far_all k r l =
+      finds_unique (Passes p) k (finds_same r (λ i g s. s.1) (λ i g e. (g, e)) l)
+      (finds_tells p (Passes p) k (λ i h. Iff.rfl))
 
 -- row j of reference rows R
 module _ (R : ℕ → RefRow) (t : ℕ) {j : ℕ} where
@@ -67,18 +70,20 @@ module _ (R : ℕ → RefRow) (t : ℕ) {j : ℕ} where
 
   -- row j is not in force
   module _ (off : During (R j).from (R j).to t → ⊥) where
-    double_skip : {n x : ℕ} → Least (Double R t j) n x → Least (Double R t (j + 1)) n x
-    double_skip =
-        least_same (λ a g. double_wider a) (λ a g d. ⊎_elim (λ x. x) (λ w. absurd (off w.0.1)) (double_or a d))
+    double_skip : (n : ℕ) (r : Option ℕ) → Finds (Double R t j) n r → Finds (Double R t (j + 1)) n r
+    double_skip n r =
+        finds_same r (λ a g. double_wider a) (λ a g d. ⊎_elim (λ x. x) (λ w. absurd (off w.0.1)) (double_or a d))
 
     flags_skip : (flags : List Bool) → Flags R t j flags → Flags R t (j + 1) flags
     flags_skip flags f a h = flag_stays a (λ x. off x.1) (f a h)
 
   -- it is, and a flag says whether one before it is from the same node
   module _ (on : During (R j).from (R j).to t) where
-    double_more : {n x : ℕ} (b : Bool) → Tells b (Any (RefersFrom R t (R j).attribute) j) → (R j).attribute < n
-        → Least (Double R t j) n x → Least (Double R t (j + 1)) n (nearer x b (R j).attribute)
-    double_more b tells h l = least_same (λ a g. there a) (λ a g. back a) (least_nearer b h l)
+    double_more : {n : ℕ} (r : Option ℕ) (b : Bool) → Tells b (Any (RefersFrom R t (R j).attribute) j)
+        → (R j).attribute < n
+        → Finds (Double R t j) n r → Finds (Double R t (j + 1)) n (nearer r b (R j).attribute)
+    double_more r b tells h l =
+        finds_same _ (λ a g. there a) (λ a g. back a) (finds_nearer (Double R t j) r b (λ e. h) l)
       where
         there : (a : ℕ) → Double R t j a ⊎ ((a ≡ (R j).attribute) × (b ≡ true)) → Double R t (j + 1) a
         there a (inl d) = double_wider a d
@@ -96,18 +101,20 @@ module _ (R : ℕ → RefRow) (t : ℕ) {j : ℕ} where
       where
         go : Dec (a ≡ (R j).attribute)
             → Tells (get_or (set flags (R j).attribute true) a false) (Any (RefersFrom R t a) (j + 1))
-        go (yes e) = (λ q. (j, omega arith, (sym e, on)), λ s. rw e (get_or-set_same flags (R j).attribute true false l))
+        go (yes e) =
+            (λ q. (j, omega arith, (sym e, on)), λ s. rw e (get_or-set_same flags (R j).attribute true false l))
         go (no e) =
             rw (get_or-set_other flags (R j).attribute a true false e)
             (flag_stays a (λ x. e (sym x.0)) (f a (omega (arith, length-set flags (R j).attribute true))))
 
-module _ {rs : List ℕ} {k n t : ℕ} {up : List ℕ} where
-  pub found_none : Found rs k n t up 0 (record { late = k; dangling = k; double = n }) (replicate most_nodes false)
+module _ {R : ℕ → RefRow} {k t : ℕ} {up : List ℕ} where
+  pub found_none : Found R k t up 0 (record { late = None; dangling = None; double = None })
+      (replicate most_nodes false)
   found_none =
       record {
         late = so_far_none _;
         dangling = so_far_none _;
-        double = least_missed _ (λ a h d. omega (arith, d.3));
+        double = λ a h d. omega (arith, d.3);
         flags = λ a h. (
           λ e. absurd (false≢true (sym (unset a (omega (arith, length-replicate most_nodes false))) ∙ e)),
           λ s. absurd (omega (arith, s.1)),
@@ -117,44 +124,37 @@ module _ {rs : List ℕ} {k n t : ℕ} {up : List ℕ} where
       unset : (a : ℕ) → a < most_nodes → get_or (replicate most_nodes false) a false ≡ false
       unset a h = get_or-replicate most_nodes a false false h
 
-  pub found_all : {j : ℕ} {r : RefFaults} {flags : List Bool} → j ≡ k → Found rs k n t up j r flags
-      → Leasts rs k n t up r
-  found_all {r = r} {flags} e found =
-      let f = subst (λ i. Found rs k n t up i r flags) e found in
-      record { late = so_far_all _ f.late; dangling = so_far_all _ f.dangling; double = f.double }
+  pub found_all : {r : RefFaults} {flags : List Bool} → Found R k t up k r flags → Leasts R k t up r
+  found_all f = record { late = so_far_all _ k _ f.late; dangling = so_far_all _ k _ f.dangling; double = f.double }
 
-  module _ {j : ℕ} {r : RefFaults} {flags : List Bool} (f : Finding rs k n t up j r flags) where
-    pub row_ends : ((ref_at rs j).attribute < n) × ((ref_at rs j).target < n)
-    row_ends = (f.refers.ends Attribute j f.row, f.refers.ends Target j f.row)
+  module _ {j : ℕ} {r : RefFaults} {flags : List Bool} (f : Finding R k t up j r flags) where
+    pub row_ends : ((R j).attribute < length up) × ((R j).target < length up)
+    row_ends = (f.refers Attribute j f.row, f.refers Target j f.row)
 
     -- row j is not in force
-    pub found_skip : during (ref_at rs j).from (ref_at rs j).to t ≡ false → Found rs k n t up (j + 1) r flags
+    pub found_skip : during (R j).from (R j).to t ≡ false → Found R k t up (j + 1) r flags
     found_skip e =
         let off = tells_fail (during_tells _ _ t) e in
         record {
-          late = rw e at (so_far_more (stray_at rs k n t up Attribute) f.row f.found.late);
-          dangling = rw e at (so_far_more (stray_at rs k n t up Target) f.row f.found.dangling);
-          double = double_skip (ref_at rs) t off f.found.double;
-          flags = flags_skip (ref_at rs) t off flags f.found.flags;
+          late = rw e at (so_far_more (stray_at R k t up Attribute) _ f.row f.found.late);
+          dangling = rw e at (so_far_more (stray_at R k t up Target) _ f.row f.found.dangling);
+          double = double_skip R t off _ _ f.found.double;
+          flags = flags_skip R t off flags f.found.flags;
         }
 
-    -- it is, from a to b: these may be absent, and one before it may be from a
-    pub found_more : during (ref_at rs j).from (ref_at rs j).to t ≡ true
-        → {a b : ℕ} → a ≡ (ref_at rs j).attribute → b ≡ (ref_at rs j).target
-        → {u : Bool} {l : ℕ} → u ≡ is_absent_of up a → l ≡ nearer r.late u j
-        → {v : Bool} {d : ℕ} → v ≡ is_absent_of up b → d ≡ nearer r.dangling v j
-        → {c : ℕ} → c ≡ nearer r.double (get_or flags a false) a
-        → Found rs k n t up (j + 1) (record { late = l; dangling = d; double = c }) (set flags a true)
-    found_more e ea eb eu el ev ed ec =
+    -- it is: its ends may be absent, and one before it may be from the same node
+    pub found_more : during (R j).from (R j).to t ≡ true
+        → Found R k t up (j + 1) (record {
+          late = nearer r.late (is_absent_of up (R j).attribute) j;
+          dangling = nearer r.dangling (is_absent_of up (R j).target) j;
+          double = nearer r.double (get_or flags (R j).attribute false) (R j).attribute;
+        }) (set flags (R j).attribute true)
+    found_more e =
         let on = (during_tells _ _ t).0 e in
-        let far : (ref_at rs j).attribute < length flags = omega (arith, f.flagged, row_ends) in
+        let far : (R j).attribute < length flags = omega (arith, f.flagged, row_ends) in
         record {
-          late =
-              rw (e, ← ea, ← eu, ← el) at (so_far_more (stray_at rs k n t up Attribute) f.row f.found.late);
-          dangling =
-              rw (e, ← eb, ← ev, ← ed) at (so_far_more (stray_at rs k n t up Target) f.row f.found.dangling);
-          double =
-              rw (← ea, ← ec) at
-              (double_more (ref_at rs) t on _ (f.found.flags _ far) row_ends.0 f.found.double);
-          flags = rw ea (flags_set (ref_at rs) t on flags far f.found.flags);
+          late = rw e at (so_far_more (stray_at R k t up Attribute) _ f.row f.found.late);
+          dangling = rw e at (so_far_more (stray_at R k t up Target) _ f.row f.found.dangling);
+          double = double_more R t on _ _ (f.found.flags _ far) row_ends.0 f.found.double;
+          flags = flags_set R t on flags far f.found.flags;
         }

@@ -1,23 +1,27 @@
 -- A slot after one more row, and the slots after a store. Assumes nothing.
 use mathlib.Core.Path.{◌≡◌, refl, sym, subst}
 use mathlib.Core.Logic.{◌⊎◌, ⊎_elim}
-use mathlib.Core.Bool.{true, false}
+use mathlib.Core.Bool.{true, cond}
 use mathlib.Core.List.{List}
 use Prim.Native.Nat.{ℕ, ◌+◌, ◌≤◌, ◌<◌}
 use native.Mathlib.Decide.{ℕ_discrete}
 use native.Mathlib.Nat.{eq-or-lt_of_le}
 use native.Mathlib.Omega.{arith}
-use lib.ListN.{length, get_or, set, replicate, length-set, get_or-replicate, length-replicate}
+use lib.Dec.{eqb}
+use borrow.Author.Tests.{eqb-true, eqb-false}
+use Rattle.std.proofs.lemmas.List.{get_or-take, length-take}
+use lib.ListN.{length, get_or, set, take, replicate, length-set, get_or-replicate, length-replicate}
 use lib.Seq.{get_or-set_same, get_or-set_other}
 use Rattle.ground.proofs.LeastLaws.{before_more}
-use Rattle.ground.proofs.TestLaws.{tells_fail}
-use Rattle.tables.specs.Tables.{During, no_node, EdgeRow, edge_at}
+use Rattle.ground.proofs.TestLaws.{by_test, tells_fail}
+use Rattle.tables.specs.Tables.{During, no_node, EdgeRow}
 use Rattle.tables.specs.Labels.{during}
 use Rattle.tables.specs.Rules.{most_nodes}
 use Rattle.tables.proofs.LabelLaws.{during_tells}
-use Rattle.history.specs.Ruled.{LentRows}
-use Rattle.history.specs.Places.{Leads}
-use Rattle.faults.specs.Slots.{Many, Slot, empty, single, several, Slots, Taking, Fit, BlankSlots, Fresh}
+use Rattle.history.specs.Faults.{History}
+use Rattle.history.specs.Ruled.{Ruled}
+use Rattle.history.specs.Places.{Leads, NodesBelow}
+use Rattle.faults.specs.Slots.{Many, slots_with, Slot, empty, single, several, Slots, BlankSlots, Fresh}
 
 module _ (L : ℕ → Type 0) (value : ℕ → ℕ) (i v : ℕ) where
   last_or : (k : ℕ) → k < i + 1 → (k ≡ i) ⊎ (k < i)
@@ -63,49 +67,30 @@ module _ (E : ℕ → EdgeRow) (t i : ℕ) (up : List ℕ) where
           rw (get_or-set_other up (E i).child c v 0 e)
           (slot_skip (Leads E t c) (λ j. (E j).parent) i (get_or up c 0) (λ y. e (sym y.0)) (s c inside))
 
--- the nodes of a history's rows are below any number that is no smaller than their count
-pub lent_fit : {start n m k : ℕ} {es rs : List ℕ} → LentRows start n es m rs k → (w : ℕ) → n ≤ w → Fit es m w
-lent_fit l w h =
-    record {
-      rows = l.edge_rows;
-      nodes =
-          λ i g. let e = l.ruled.edge_fits i g in
-          (omega (arith, e.parent), omega (arith, e.child));
-    }
+-- row i in force, after the rows before it: what its child's slot says then
+slot_with : (E : ℕ → EdgeRow) (t i : ℕ) (v : ℕ) → ((j : ℕ) → j < i → (E j).parent < Many)
+    → Leads E t (E i).child i → Slot (Leads E t (E i).child) (λ j. (E j).parent) i v
+    → Slot (Leads E t (E i).child) (λ j. (E j).parent) (i + 1) (cond (eqb v no_node) (E i).parent Many)
+slot_with E t i v small here s =
+    by_test (eqb v no_node) (λ e. rw e (slot_first _ (λ j. (E j).parent) i v small here (eqb-true _ _ e) s))
+    (λ e. rw e (slot_more _ (λ j. (E j).parent) i v small here (eqb-false _ _ e) s))
 
--- before turn i of a pass that began with the slots up₀
-pub taking : {es up₀ up : List ℕ} {t m i : ℕ} → BlankSlots es t m up₀ → length up ≡ length up₀ → i < m
-    → Slots (edge_at es) t i up → Taking es t i up
-taking b e h s =
-    record {
-      row = omega (arith, b.fit.rows);
-      inside = omega (arith, b.fit.nodes _ h);
-      small = λ j l. omega (arith, b.fit.nodes j (omega arith), b.few);
-      slots = s;
-    }
+-- the slots after row i, in a pass that began with the slots up₀
+pub slots_next : {E : ℕ → EdgeRow} {m t i : ℕ} {up₀ : List ℕ} (up : List ℕ) → BlankSlots m E t up₀
+    → length up ≡ length up₀ → i < m → Slots E t i up → Slots E t (i + 1) (slots_with (E i) t up)
+slots_next {E} {t = t} {i} up b same h s =
+    by_test (during (E i).from (E i).to t) (λ f. rw f (slots_set E t i up _ inside (after f) s))
+    (λ f. rw f (slots_skip E t i up (tells_fail (during_tells _ _ t) f) s))
+  where
+    inside : (E i).child < length up
+    inside = omega (arith, b.nodes i h)
 
--- the same by what the code has read of row i
-module _ {es : List ℕ} {t i : ℕ} (up : List ℕ) (r : Taking es t i up) where
-  pub take_none : during (edge_at es i).from (edge_at es i).to t ≡ false → Slots (edge_at es) t (i + 1) up
-  take_none e = slots_skip (edge_at es) t i up (tells_fail (during_tells _ _ t) e) r.slots
-
-  module _ (f : during (edge_at es i).from (edge_at es i).to t ≡ true) {c : ℕ} (ec : c ≡ (edge_at es i).child) where
-    here : Leads (edge_at es) t (edge_at es i).child i
-    here = (refl, (during_tells _ _ t).0 f)
-
-    pub take_first : {p : ℕ} → p ≡ (edge_at es i).parent → get_or up c 0 ≡ no_node → Slots (edge_at es) t (i + 1) (set up c p)
-    take_first ep e =
-        rw (ec, ep)
-        (slots_set (edge_at es) t i up (edge_at es i).parent r.inside
-        (slot_first _ (λ j. (edge_at es j).parent) i (get_or up (edge_at es i).child 0) r.small here (rw ec at e)
-        (r.slots (edge_at es i).child r.inside)) r.slots)
-
-    pub take_more : (get_or up c 0 ≡ no_node → ⊥) → Slots (edge_at es) t (i + 1) (set up c Many)
-    take_more f =
-        rw ec
-        (slots_set (edge_at es) t i up Many r.inside
-        (slot_more _ (λ j. (edge_at es j).parent) i (get_or up (edge_at es i).child 0) r.small here (rw ec at f)
-        (r.slots (edge_at es i).child r.inside)) r.slots)
+    after : during (E i).from (E i).to t ≡ true
+        → Slot (Leads E t (E i).child) (λ j. (E j).parent) (i + 1)
+        (cond (eqb (get_or up (E i).child 0) no_node) (E i).parent Many)
+    after f =
+        slot_with E t i _ (λ j l. omega (arith, b.nodes j (omega arith), b.few)) (refl, (during_tells _ _ t).0 f)
+        (s (E i).child inside)
 
 -- slots that are all no_node are those of no row
 pub fresh : {n : ℕ} → n ≤ most_nodes → Fresh n (replicate most_nodes no_node)
@@ -116,11 +101,20 @@ fresh h =
       blank = λ c l. get_or-replicate most_nodes c no_node 0 (omega (arith, length-replicate most_nodes no_node));
     }
 
-pub lent_blank : {start n m k : ℕ} {es rs up : List ℕ} → LentRows start n es m rs k → Fresh n up → (t : ℕ)
-    → BlankSlots es t m up
-lent_blank l f t =
+-- the nodes of a history's rows are below any number that is no smaller than their count
+pub ruled_within : {H : History} → Ruled H → (w : ℕ) → H.nodes ≤ w → NodesBelow H.edges H.edge w
+ruled_within r w h i g = let e = r.edge_fits i g in (omega (arith, e.parent), omega (arith, e.child))
+
+pub ruled_blank : {H : History} {up : List ℕ} → Ruled H → Fresh H.nodes up → (t : ℕ) → BlankSlots H.edges H.edge t up
+ruled_blank r f t =
     record {
-      fit = lent_fit l _ f.long;
+      nodes = ruled_within r _ f.long;
       few = f.few;
       slots = λ c h. empty (f.blank c h) (λ j g. absurd (omega arith));
     }
+
+-- the slots of the first n nodes
+pub slots_take : {E : ℕ → EdgeRow} {t i : ℕ} (up : List ℕ) (n : ℕ) → Slots E t i up → Slots E t i (take n up)
+slots_take up n s c h =
+    rw (get_or-take n up c 0 (omega (arith, length-take n up)))
+    (s c (omega (arith, length-take n up)))

@@ -132,9 +132,6 @@ module _ (up : List ℕ) (n : ℕ) where
           never = below_more _ _ w.never (λ e. ne (w.at ∙ e));
         }
 
-    pub climbing_back : x ≡ c → Back up n c
-    climbing_back e = (k, sym w.at ∙ e)
-
     module _ (few : n ≤ no_node) (l : c < n) where
       -- it has left the nodes, or it is n steps long
       pub climbing_left : n ≤ x → Back up n c → ⊥

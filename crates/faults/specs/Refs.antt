@@ -9,11 +9,12 @@
 -- Assumes nothing.
 use Rattle.std.specs.Prelude.{◌≡◌, Bool, false, List, ℕ, ◌≤◌, ◌<◌, length, get_or}
 use Rattle.ground.specs.Tests.{Tells}
-use Rattle.ground.specs.Least.{Any, Least}
-use Rattle.ground.specs.Searches.{Passes, least}
-use Rattle.tables.specs.declared.rows.Side.{Side}
-use Rattle.tables.specs.declared.rows.Side.TheVariants.{Attribute, Target}
-use Rattle.tables.specs.Tables.{RefRow, ref_at}
+use Rattle.ground.specs.Least.{Any}
+use Rattle.ground.specs.Searches.{Finds}
+use Rattle.ground.specs.Searches.{Passes, found}
+use Rattle.tables.specs.Rows.{Side}
+use Rattle.tables.specs.Rows.{Attribute, Target}
+use Rattle.tables.specs.Tables.{RefRow}
 use Rattle.history.specs.Faults.{RefersFrom, Double}
 use Rattle.faults.specs.declared.refs.RefFaults.{RefFaults}
 use Rattle.faults.specs.Leaves.{is_stray, Referring}
@@ -24,24 +25,23 @@ SoFar p j i = (i < j) × Passes p i
 abbrev pub Flags : (ℕ → RefRow) → ℕ → ℕ → List Bool → Type 0
 Flags R t j flags = (a : ℕ) → a < length flags → Tells (get_or flags a false) (Any (RefersFrom R t a) j)
 
-module _ (rs : List ℕ) (k n t : ℕ) (up : List ℕ) where
+module _ (R : ℕ → RefRow) (k t : ℕ) (up : List ℕ) where
   abbrev pub stray_at : Side → ℕ → Bool
-  stray_at side j = is_stray up t side (ref_at rs j)
+  stray_at side j = is_stray up t side (R j)
 
   pub record Found (j : ℕ) (r : RefFaults) (pointing : List Bool) : Type 0 where
-    pub late : Least (SoFar (stray_at Attribute) j) k r.late
-    pub dangling : Least (SoFar (stray_at Target) j) k r.dangling
-    pub double : Least (Double (ref_at rs) t j) n r.double
-    pub flags : Flags (ref_at rs) t j pointing
+    pub late : Finds (SoFar (stray_at Attribute) j) k r.late
+    pub dangling : Finds (SoFar (stray_at Target) j) k r.dangling
+    pub double : Finds (Double R t j) (length up) r.double
+    pub flags : Flags R t j pointing
 
   pub record Finding (j : ℕ) (r : RefFaults) (pointing : List Bool) : Type 0 where
-    pub refers : Referring rs k n
-    pub slots : n ≤ length up
-    pub flagged : n ≤ length pointing
+    pub refers : Referring k R (length up)
+    pub flagged : length up ≤ length pointing
     pub row : j < k
     pub found : Found j r pointing
 
   pub record Leasts (r : RefFaults) : Type 0 where
-    pub late : r.late ≡ least (stray_at Attribute) k
-    pub dangling : r.dangling ≡ least (stray_at Target) k
-    pub double : Least (Double (ref_at rs) t k) n r.double
+    pub late : r.late ≡ found (stray_at Attribute) k
+    pub dangling : r.dangling ≡ found (stray_at Target) k
+    pub double : Finds (Double R t k) (length up) r.double

@@ -1,40 +1,41 @@
 -- The first start and the last end of each node's rows, for GAP: found once for all instants.
---   Span    first is the smallest start of the first i rows into c, and last their largest end; Now and 0 where there
---           is none
---   Spans   two lists hold that for every node
---   Noting  row i can be noted in the bounds of the rows before it
---   Bare    bounds that no row has changed, for the nodes of m rows
---   Bounds  two lists hold the bounds of n nodes
+--   Spanned   a span's first is the smallest start of the first i rows into c, and its last their largest end; Now and
+--             0 where there is none
+--   span_at   the span of node c
+--   Spans     a list holds that for every node
+--   span_with, spans_with   the span of a row's child, and the spans, after one row more
+--   Bare      spans that no row has changed, for the nodes of m rows
+--   Bounds    a list holds the spans of n nodes
 -- Assumes nothing.
-use Rattle.std.specs.Prelude.{◌≡◌, ◌⊎◌, List, ℕ, ◌+◌, ◌≤◌, ◌<◌, length, get_or}
+use Rattle.std.specs.Prelude.{◌≡◌, ◌⊎◌, List, ℕ, ◌≤◌, ◌<◌, min, max, length, get_or, set}
 use Rattle.ground.specs.Least.{Any}
-use Rattle.tables.specs.Tables.{Now, EdgeRow, edge_at}
-use Rattle.tables.specs.Rows.{HasEdges}
-use Rattle.faults.specs.Slots.{Fit}
+use Rattle.tables.specs.Tables.{Now, EdgeRow}
+use Rattle.history.specs.Places.{NodesBelow}
+use Rattle.faults.specs.declared.spans.Span.{Span}
+
+abbrev pub span_at : List Span → ℕ → Span
+span_at spans c = get_or spans c (record { first = 0; last = 0 })
 
 module _ (E : ℕ → EdgeRow) where
-  pub record Span (c i first last : ℕ) : Type 0 where
-    pub none_sooner : (j : ℕ) → j < i → (E j).child ≡ c → first ≤ (E j).from
-    pub starts : (first ≡ Now) ⊎ Any (λ j. ((E j).child ≡ c) × ((E j).from ≡ first)) i
-    pub none_later : (j : ℕ) → j < i → (E j).child ≡ c → (E j).to ≤ last
-    pub ends : (last ≡ 0) ⊎ Any (λ j. ((E j).child ≡ c) × ((E j).to ≡ last)) i
+  pub record Spanned (c i : ℕ) (span : Span) : Type 0 where
+    pub none_sooner : (j : ℕ) → j < i → (E j).child ≡ c → span.first ≤ (E j).from
+    pub starts : (span.first ≡ Now) ⊎ Any (λ j. ((E j).child ≡ c) × ((E j).from ≡ span.first)) i
+    pub none_later : (j : ℕ) → j < i → (E j).child ≡ c → (E j).to ≤ span.last
+    pub ends : (span.last ≡ 0) ⊎ Any (λ j. ((E j).child ≡ c) × ((E j).to ≡ span.last)) i
 
-  abbrev pub Spans : ℕ → List ℕ → List ℕ → Type 0
-  Spans i first last = (c : ℕ) → c < length first → Span c i (get_or first c 0) (get_or last c 0)
+  abbrev pub Spans : ℕ → List Span → Type 0
+  Spans i spans = (c : ℕ) → c < length spans → Spanned c i (span_at spans c)
 
--- the table has the row, and its child has bounds
-pub record Noting (es : List ℕ) (i : ℕ) (first last : List ℕ) : Type 0 where
-  pub row : HasEdges es (i + 1)
-  pub inside : (edge_at es i).child < length first
-  pub same : length first ≡ length last
-  pub spans : Spans (edge_at es) i first last
+abbrev pub span_with : EdgeRow → Span → Span
+span_with e span = record { first = min span.first e.from; last = max span.last e.to }
 
-pub record Bare (es : List ℕ) (m : ℕ) (first last : List ℕ) : Type 0 where
-  pub fit : Fit es m (length first)
-  pub same : length first ≡ length last
-  pub spans : Spans (edge_at es) 0 first last
+abbrev pub spans_with : EdgeRow → List Span → List Span
+spans_with e spans = set spans e.child (span_with e (span_at spans e.child))
 
-pub record Bounds (m : ℕ) (E : ℕ → EdgeRow) (n : ℕ) (first last : List ℕ) : Type 0 where
-  pub firsts : n ≤ length first
-  pub lasts : n ≤ length last
-  pub spans : Spans E m first last
+pub record Bare (m : ℕ) (E : ℕ → EdgeRow) (spans : List Span) : Type 0 where
+  pub nodes : NodesBelow m E (length spans)
+  pub each : Spans E 0 spans
+
+pub record Bounds (m : ℕ) (E : ℕ → EdgeRow) (n : ℕ) (spans : List Span) : Type 0 where
+  pub long : n ≤ length spans
+  pub each : Spans E m spans

@@ -1,36 +1,33 @@
 // One pass over the rows at an instant: each node's slot holds the parent of the row into it that is in force.
-ghost use Rattle.std.specs.Prelude.{◌+◌};
+ghost use Rattle.std.specs.Prelude.{◌≡◌, ◌<◌, length};
 ghost use Rattle.tables.specs.Tables.{edge_at};
-ghost use Rattle.faults.specs.Slots.{Slots, Taking, BlankSlots};
+ghost use Rattle.faults.specs.Slots.{Slots, BlankSlots, slots_with};
 
-use tables::rows::{NO_NODE, edge_child, edge_in_force, edge_parent};
+use tables::joins::Join;
+use tables::rows::{EdgeRow, NO_NODE, Rows};
 
-// A slot where several rows into the node are in force; NO_NODE stands where none is.
+// A slot where several rows into the node are in force; NO_NODE stands where none is. Slots are numbers, as in the
+// lists that `ready` and `show` are lent, and a number has 4 bytes: an Option of it would have 8, and the slots lie on
+// the stack.
 pub const MANY: u32 = 4294967294;
 
-// Row i: its parent goes into its child's slot, or MANY where the slot is taken.
-fn take_row(edges: &[u32], i: usize, t: u32, up: &mut [u32])
-    requires { Taking edges.now t i up.old }
-    ensures { Slots (edge_at edges.now) t (i + 1) up.new }
+// A row's parent goes into its child's slot, or MANY where the slot is taken.
+fn take_row(edge: EdgeRow, t: u32, up: &mut [u32])
+    requires { edge.child < length up.old }
+    ensures { up.new ≡ slots_with edge t up.old }
 {
-    if edge_in_force(edges, i, t) {
-        let c = edge_child(edges, i) as usize;
-        if up[c] == NO_NODE {
-            up[c] = edge_parent(edges, i);
-        } else {
-            up[c] = MANY;
-        }
+    if edge.in_force(t) {
+        let slot = &mut up[edge.child as usize];
+        *slot = if *slot == NO_NODE { edge.parent } else { MANY };
     }
 }
 
-// All m rows, from slots that are all NO_NODE.
-pub fn take_rows(edges: &[u32], m: usize, t: u32, up: &mut [u32])
-    requires { BlankSlots edges.now t m up.old }
-    ensures { Slots (edge_at edges.now) t m up.new }
+// All rows, from slots that are all NO_NODE: asked for here alone, so that a type would be no plainer.
+pub fn take_rows(edges: &Rows<'_, EdgeRow>, t: u32, up: &mut [u32])
+    requires { BlankSlots edges.now.count (edge_at edges.now.numbers) t up.old }
+    ensures { Slots (edge_at edges.now.numbers) t edges.now.count up.new }
 {
-    let mut i = 0;
-    while i < m {
-        take_row(edges, i, t, up);
-        i += 1;
+    for i in 0..edges.len() {
+        take_row(edges.row(i), t, up);
     }
 }

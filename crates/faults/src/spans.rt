@@ -1,31 +1,39 @@
 // One pass over the rows for all instants: each node's first start and last end.
-ghost use Rattle.std.specs.Prelude.{◌+◌};
+ghost use Rattle.std.specs.Prelude.{◌≡◌, ◌<◌, length};
 ghost use Rattle.tables.specs.Tables.{edge_at};
-ghost use Rattle.faults.specs.Spans.{Spans, Noting, Bare};
+ghost use Rattle.faults.specs.Spans.{Spans, Bare, spans_with};
 
-use ground::{larger, smaller};
-use tables::rows::{edge_child, edge_label};
+use tables::label::NOW;
+use tables::rows::{EdgeRow, Rows};
 
-// Row i goes into its child's bounds.
-fn note_row(edges: &[u32], i: usize, first: &mut [u32], last: &mut [u32])
-    requires { Noting edges.now i first.old last.old }
-    ensures { Spans (edge_at edges.now) (i + 1) first.new last.new }
-{
-    let c = edge_child(edges, i) as usize;
-    let label = edge_label(edges, i);
-    let end = label.end;
-    first[c] = smaller(first[c], label.from);
-    last[c] = larger(last[c], end.instant());
+#[derive(Clone, Copy, Debug, PartialEq, Eq)]
+pub struct Span {
+    pub first: u32,
+    pub last: u32,
 }
 
-// All m rows, from bounds that no row has changed.
-pub fn note_rows(edges: &[u32], m: usize, first: &mut [u32], last: &mut [u32])
-    requires { Bare edges.now m first.old last.old }
-    ensures { Spans (edge_at edges.now) m first.new last.new }
+// Of a node that has no row yet.
+pub const UNSEEN: Span = Span {
+    first: NOW,
+    last: 0,
+};
+
+// A row goes into its child's span.
+fn note_row(edge: EdgeRow, spans: &mut [Span])
+    requires { edge.child < length spans.old }
+    ensures { spans.new ≡ spans_with edge spans.old }
 {
-    let mut i = 0;
-    while i < m {
-        note_row(edges, i, first, last);
-        i += 1;
+    let span = &mut spans[edge.child as usize];
+    span.first = span.first.min(edge.from);
+    span.last = span.last.max(edge.to);
+}
+
+// All rows, from spans that no row has changed.
+pub fn note_rows(edges: &Rows<'_, EdgeRow>, spans: &mut [Span])
+    requires { Bare edges.now.count (edge_at edges.now.numbers) spans.old }
+    ensures { Spans (edge_at edges.now.numbers) edges.now.count spans.new }
+{
+    for i in 0..edges.len() {
+        note_row(edges.row(i), spans);
     }
 }

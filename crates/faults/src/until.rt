@@ -1,13 +1,11 @@
 // How long nothing changes: the last instant before the next change.
 ghost use Rattle.tables.specs.Labels.{instant_of};
-ghost use Rattle.tables.specs.Rows.{from_at, to_at, HasRows, HasEdges, HasRefs};
 ghost use Rattle.tables.specs.Tables.{edge_at, ref_at};
-ghost use Rattle.std.specs.Prelude.{◌<◌};
 ghost use Rattle.history.specs.Until.{Starts, Ends, Still, Calm, LargestInstant, RowsUntil};
 
-use ground::smaller;
+use tables::joins::Join;
 use tables::label::{Label, NOW};
-use tables::rows::{EDGE_WIDTH, REF_WIDTH, label_at};
+use tables::rows::{EdgeRow, RefRow, Rows};
 
 fn start_until(from: u32, t: u32) -> u32
     ensures { LargestInstant (λ u. Starts t from u → ⊥) result }
@@ -25,32 +23,24 @@ fn end_until(to: u32, t: u32) -> u32
 fn label_until(label: Label, t: u32) -> u32
     ensures { LargestInstant (Still t label.from (instant_of label.end)) result }
 {
-    let from = label.from;
-    let end = label.end;
-    smaller(start_until(from, t), end_until(end.instant(), t))
+    start_until(label.from, t).min(end_until(label.end.instant(), t))
 }
 
-// Of the first m rows of a table whose rows have `width` numbers.
-fn rows_until(rows: &[u32], width: usize, m: usize, t: u32) -> u32
-    requires { (1 < width) × HasRows width rows.now m }
-    ensures { LargestInstant (Calm t m (from_at width rows.now) (to_at width rows.now)) result }
+// Of the rows of one table.
+fn rows_until<R: Join>(rows: &Rows<'_, R>, t: u32) -> u32
+    ensures { LargestInstant (Calm t rows.now.count (λ i. R.from (R.row_at rows.now.numbers i))
+        (λ i. R.to (R.row_at rows.now.numbers i))) result }
 {
     let mut best = NOW;
-    let mut i = 0;
-    while i < m {
-        best = smaller(best, label_until(label_at(rows, width, i), t));
-        i += 1;
+    for i in 0..rows.len() {
+        best = best.min(label_until(rows.row(i).label(), t));
     }
     best
 }
 
 // The largest instant such that no row starts after t up to it, and none ends from t on before it.
-pub fn until(edges: &[u32], m: usize, refs: &[u32], k: usize, t: u32) -> u32
-    requires { HasEdges edges.now m × HasRefs refs.now k }
-    ensures { RowsUntil m (edge_at edges.now) k (ref_at refs.now) t result }
+pub fn until(edges: &Rows<'_, EdgeRow>, refs: &Rows<'_, RefRow>, t: u32) -> u32
+    ensures { RowsUntil edges.now.count (edge_at edges.now.numbers) refs.now.count (ref_at refs.now.numbers) t result }
 {
-    smaller(
-        rows_until(edges, EDGE_WIDTH, m, t),
-        rows_until(refs, REF_WIDTH, k, t),
-    )
+    rows_until(edges, t).min(rows_until(refs, t))
 }

@@ -1,19 +1,34 @@
 -- Laws of the smallest number: it is the only one, how a search finds it, and that the computed one is it. Assumes
 -- nothing.
-use mathlib.Core.Path.{◌≡◌, refl, sym, subst, ◌∙◌}
+use mathlib.Core.Path.{◌≡◌, refl, sym, ap, subst, ◌∙◌}
 use mathlib.Core.Logic.Dec
 use mathlib.Core.Logic.Iff
 use mathlib.Core.Logic.{◌⊎◌, inl, inr, ⊎_elim, ◌↔◌}
-use mathlib.Core.Bool.{Bool, true, false, cond, ◌&&◌, false≢true}
-use Prim.Native.Nat.{ℕ, zero, suc, ◌+◌, ◌≤◌, ◌<◌}
+use mathlib.Core.Bool.{Bool, true, false, cond, false≢true}
+use mathlib.Core.List.{List}
+use Prim.Native.Nat.{ℕ, zero, suc, ◌+◌, ◌≤◌, ◌<◌, min}
 use native.Mathlib.Decide.{ℕ_discrete, dec_lt}
 use native.Mathlib.Omega.{arith}
-use lib.Dec.{ltb}
-use borrow.Author.Tests.{ltb-true, ltb-false}
+use borrow.Author.Tests.{lt-ltb, le-ltb}
+use denote.Param.Members.{Mut}
+use denote.Ref.{Bor}
+use Rattle.std.specs.Prelude.{Option, Some, None}
+use Rattle.std.specs.declared.ops.Range.{Range}
+use Rattle.std.specs.Fn.{CalledAt}
+use Rattle.std.specs.Iterator.{YieldsThen}
+use Rattle.std.specs.List.{FoldsTo}
+use Rattle.std.specs.Option.{MatchOption}
+use Rattle.std.specs.Bool.{⊤}
+use Rattle.std.proofs.iter.Yields.{nat_range_steps}
+use Rattle.std.proofs.lemmas.Iterator.{first_from_Range}
+use Rattle.std.proofs.lemmas.List.Sums.{position_or_len_is}
+use Rattle.std.specs.List.{position}
+use lib.ListN.{length, get_or}
 use Rattle.ground.specs.Tests.{Tells}
-use Rattle.ground.specs.Least.{Any, Before, Least}
-use Rattle.ground.specs.Searches.{Passes, any, least, nearer}
-use Rattle.ground.proofs.TestLaws.{tells_or}
+use Rattle.ground.specs.Least.{Any, Before, Least, Smallest}
+use Rattle.ground.specs.Searches.{Finds}
+use Rattle.ground.specs.Searches.{Passes, any, least, found, nearer}
+use Rattle.ground.proofs.TestLaws.{by_lt, tells_or, tells_fails}
 
 pub not_lt→le : {m n : ℕ} → (m < n → ⊥) → n ≤ m
 not_lt→le {m} {n} f = omega arith
@@ -105,20 +120,6 @@ pub least_stays : {P Q : ℕ → Type 0} {n k : ℕ} → ((i : ℕ) → P i → 
 least_stays f g l =
     record { within = l.within; before = λ i h q. l.before i h (g i h q); here = λ h. f _ (l.here h) }
 
--- one number x more, where a test passes
-pub least_nearer : {P : ℕ → Type 0} {n k x : ℕ} (b : Bool) → x < n → Least P n k
-    → Least (λ i. P i ⊎ ((i ≡ x) × (b ≡ true))) n (nearer k b x)
-least_nearer {P} {n} {k} {x} b h l = go b (ltb x k) refl
-  where
-    go : (b q : Bool) → ltb x k ≡ q → Least (λ i. P i ⊎ ((i ≡ x) × (b ≡ true))) n (cond (b && q) x k)
-    go true true e =
-        let near = ltb-true x k e in
-        least_found _ h (λ i g. ⊎_elim (l.before i (omega arith)) (λ w. omega (arith, w.0))) (inr (refl, refl))
-    go true false e =
-        let far = ltb-false x k e in
-        least_stays (λ i. inl) (λ i g. ⊎_elim (λ p. p) (λ w. absurd (omega (arith, w.0)))) l
-    go false q e = least_stays (λ i. inl) (λ i g. ⊎_elim (λ p. p) (λ w. absurd (false≢true w.1))) l
-
 -- the greatest number below n with a property that can be decided, or that there is none
 abbrev pub Greatest : (ℕ → Type 0) → ℕ → ℕ → Type 0
 Greatest P n k = (k < n) × P k × ((i : ℕ) → k < i → i < n → P i → ⊥)
@@ -174,6 +175,53 @@ module _ (p : ℕ → Bool) (P : ℕ → Type 0) where
       least_step n (least p n) (λ h. tells (least p n) (omega arith)) (least_tells n (λ i h. tells i (omega arith)))
       (p (least p n)) refl
 
+-- a search that answers the smallest number, if there is one
+pub finds_tells : (p : ℕ → Bool) (P : ℕ → Type 0) (n : ℕ) → ((i : ℕ) → i < n → Tells (p i) (P i))
+    → Finds P n (found p n)
+finds_tells p P n tells =
+    by_lt (least p n) n
+    (λ h. rw (lt-ltb _ _ h) (least_tells p P n tells, h))
+    (λ h. rw (le-ltb _ _ h) (least_none P (least_tells p P n tells) h))
+
+-- one number x more, where a test passes
+pub finds_nearer : (P : ℕ → Type 0) {n x : ℕ} (r : Option ℕ) (b : Bool) → (b ≡ true → x < n) → Finds P n r
+    → Finds (λ i. P i ⊎ ((i ≡ x) × (b ≡ true))) n (nearer r b x)
+finds_nearer P None false h f = λ i g. ⊎_elim (f i g) (λ w. false≢true w.1)
+finds_nearer P (Some k) false h f =
+    (least_stays (λ i. inl) (λ i g. ⊎_elim (λ p. p) (λ w. absurd (false≢true w.1))) f.0, f.1)
+finds_nearer P {n} {x} None true h f = rw q (least_found _ (h refl) before (inr (refl, refl)), h refl)
+  where
+    q : min x x ≡ x
+    q = omega arith
+
+    before : Before (λ i. P i ⊎ ((i ≡ x) × (true ≡ true))) x
+    before i g = ⊎_elim (f i (omega (arith, h refl))) (λ w. omega (arith, w.0))
+finds_nearer P {n} {x} (Some k) true h f = go (dec_lt x k)
+  where
+    go : Dec (x < k) → Smallest (λ i. P i ⊎ ((i ≡ x) × (true ≡ true))) n (min k x)
+    go (yes l) =
+        let q : min k x ≡ x = omega arith in
+        rw q (
+          least_found _ (h refl) (λ i g. ⊎_elim (f.0.before i (omega arith)) (λ w. omega (arith, w.0)))
+              (inr (refl, refl)),
+          h refl,
+        )
+    go (no l) =
+        let q : min k x ≡ k = omega arith in
+        rw q (least_stays (λ i. inl) (λ i g. ⊎_elim (λ p. p) (λ w. absurd (omega (arith, w.0)))) f.0, f.1)
+
+-- two properties that say the same are found at the same number
+pub finds_same : {P Q : ℕ → Type 0} {n : ℕ} (r : Option ℕ) → ((i : ℕ) → i < n → P i → Q i)
+    → ((i : ℕ) → i < n → Q i → P i) → Finds P n r → Finds Q n r
+finds_same None f g l = λ i h q. l i h (g i h q)
+finds_same (Some k) f g l = (least_same f g l.0, l.1)
+
+pub finds_unique : (P : ℕ → Type 0) (n : ℕ) {r s : Option ℕ} → Finds P n r → Finds P n s → r ≡ s
+finds_unique P n {r = None} {s = None} f g = refl
+finds_unique P n {r = None} {s = Some k} f g = absurd (f k g.1 (g.0.here g.1))
+finds_unique P n {r = Some k} {s = None} f g = absurd (g k f.1 (f.0.here f.1))
+finds_unique P n {r = Some j} {s = Some k} f g = ap (λ x. Some x) (least_unique P f.0 g.0)
+
 -- a loop that looks for the smallest number at which a test passes: at its start, after a turn that did
 -- not find, where it found, at its end
 module _ (p : ℕ → Bool) where
@@ -191,3 +239,60 @@ module _ (p : ℕ → Bool) where
   search_missed {n} h b =
       least_unique (Passes p) (least_missed (Passes p) (λ i l. b i (omega arith)))
       (least_tells p (Passes p) n (λ i h. Iff.rfl))
+
+  -- what such a search answers
+  pub found_some : {n k : ℕ} → k < n → Before (Passes p) k → p k ≡ true → Some k ≡ found p n
+  found_some {n} {k} h b e = let q = search_found h b e in rw (← q, lt-ltb k n h)
+
+  pub found_none : {n : ℕ} → Before (Passes p) n → None ≡ found p n
+  found_none {n} b = let q = search_missed {n = n} (omega arith) b in rw (← q, le-ltb n n (omega arith))
+
+  found_first : (n : ℕ) (r : Option ℕ)
+      → MatchOption r ((k : ℕ) → 0 ≤ k → k < n → p k ≡ false)
+      (λ i. (0 ≤ i) × (i < n) × (p i ≡ true) × ((k : ℕ) → 0 ≤ k → k < i → p k ≡ false))
+      → r ≡ found p n
+  found_first n None f = found_none (λ i h t. false≢true (sym (f i (omega arith) h) ∙ t))
+  found_first n (Some i) (_, h, e, f) = found_some h (λ k g t. false≢true (sym (f k (omega arith) g) ∙ t)) e
+
+  -- `find` over a range from 0, by a closure that makes the test
+  pub find_found : {n : ℕ} {F : Type 0} {g : Mut F (Bor ℕ × Unit {0}) Bool} (s u : Range ℕ)
+      → s.start ≡ 0 → s.end ≡ n → (f : F) (r : Option ℕ)
+      → (xs : List ℕ) × (j : F) × YieldsThen nat_range_steps s xs r u × FoldsTo (λ p x q. CalledAt g p x false q) f xs j
+      × MatchOption r ⊤ (λ x. (h : F) × CalledAt g j x true h)
+      → ((x : ℕ) (b : Bool) (q : F) → CalledAt g f x b q → (q ≡ f) × (b ≡ p x))
+      → r ≡ found p n
+  find_found {n} {F} {g} s u begins ends f r ran calls =
+      found_first n r (rw (begins, ends) at
+      (first_from_Range s u f r (λ k. p k ≡ true) (λ k. p k ≡ false) ran (λ x q c. sym (calls x true q c).1)
+      (λ x q c. ((calls x false q c).0, sym (calls x false q c).1))))
+
+-- the same by a closure that decides a property
+pub find_finds : (P : ℕ → Type 0) {n : ℕ} {F : Type 0} {g : Mut F (Bor ℕ × Unit {0}) Bool} (s u : Range ℕ)
+    → s.start ≡ 0 → s.end ≡ n → (f : F) (r : Option ℕ)
+    → (xs : List ℕ) × (j : F) × YieldsThen nat_range_steps s xs r u × FoldsTo (λ p x q. CalledAt g p x false q) f xs j
+    × MatchOption r ⊤ (λ x. (h : F) × CalledAt g j x true h)
+    → ((x : ℕ) (q : F) → CalledAt g f x true q → P x)
+    → ((x : ℕ) (q : F) → CalledAt g f x false q → (q ≡ f) × (P x → ⊥))
+    → Finds P n r
+find_finds P {n} s u begins ends f r ran hit miss =
+    at r (rw (begins, ends) at (first_from_Range s u f r P (λ k. P k → ⊥) ran hit miss))
+  where
+    at : (r : Option ℕ)
+        → MatchOption r ((k : ℕ) → 0 ≤ k → k < n → P k → ⊥)
+        (λ i. (0 ≤ i) × (i < n) × P i × ((k : ℕ) → 0 ≤ k → k < i → P k → ⊥))
+        → Finds P n r
+    at None f = λ i h. f i (omega arith) h
+    at (Some i) (_, h, e, f) = (least_found P h (λ k g. f k (omega arith) g) e, h)
+
+-- `position` over a list is a search for the smallest place
+pub position_found : (p : ℕ → Bool) (xs : List ℕ) → position p xs ≡ found (λ i. p (get_or xs i 0)) (length xs)
+position_found p xs =
+    rw
+    (position_or_len_is p xs (least at (length xs)) 0 l.within (λ k h. tells_fails _ Iff.rfl (l.before k h)) l.here)
+    refl
+  where
+    at : ℕ → Bool
+    at i = p (get_or xs i 0)
+
+    l : Least (Passes at) (length xs) (least at (length xs))
+    l = least_tells at (Passes at) (length xs) (λ i h. Iff.rfl)

@@ -13,7 +13,7 @@ use Rattle.ground.specs.Least.{Any}
 use Rattle.ground.specs.Searches.{any}
 use Rattle.ground.proofs.TestLaws.{tells_and, tells_or, tells_not, tells_le, tells_lt, tells_eq}
 use Rattle.ground.proofs.LeastLaws.{any_tells}
-use Rattle.tables.specs.declared.rows.Side.{Side}
+use Rattle.tables.specs.Rows.{Side}
 use Rattle.tables.specs.Tables.{During, EdgeRow, RefRow}
 use Rattle.tables.specs.Rows.{side_of}
 use Rattle.tables.proofs.LabelLaws.{during_tells}

@@ -12,9 +12,8 @@ use borrow.Author.Tests.{leb-true, leb-false, le-leb}
 use Rattle.ground.proofs.TestLaws.{by_test}
 use Rattle.ground.proofs.LeastLaws.{below_suc}
 use Rattle.answers.specs.declared.Fault.{Fault}
-use Rattle.answers.specs.declared.Answer.{Answer}
+use Rattle.answers.specs.Answers.{Answer}
 use Rattle.answers.specs.Numbers.{refuses}
-use Rattle.answers.proofs.AnswerLaws.{faulty_refuses}
 use Rattle.tables.specs.Tables.{Now}
 use Rattle.history.specs.Faults.{History, Holds, Faultless, Verdict, accepted, refused}
 use Rattle.history.specs.Ruled.{Ruled}
@@ -73,7 +72,7 @@ change_listed H c (inr (k, h, x)) =
 -- an answer that names the first fault refuses where there is one
 names_refuses : (F : Fault → Type 0) (t : ℕ) {a : Answer} → Names F t a → (f : Fault) → F f → refuses a ≡ true
 names_refuses F t (none n) f x = absurd (n f x)
-names_refuses F t (first {f = g} y) f x = faulty_refuses t g
+names_refuses F t (first {f = g} y) f x = refl
 
 module _ (H : History) (r : Ruled H) where
   -- before the soonest faulty change instant there is no fault

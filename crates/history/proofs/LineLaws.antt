@@ -10,8 +10,8 @@ use Rattle.ground.proofs.LeastLaws.{not_lt→le}
 use Rattle.answers.specs.declared.Kind.{Kind}
 use Rattle.answers.specs.declared.Kind.TheVariants.{Overlap, Gap, Outside, Cycle, Late, Dangling, Double}
 use Rattle.answers.specs.declared.Fault.{Fault}
-use Rattle.tables.specs.declared.rows.Side.{Side}
-use Rattle.tables.specs.declared.rows.Side.TheVariants.{Attribute, Target}
+use Rattle.tables.specs.Rows.{Side}
+use Rattle.tables.specs.Rows.{Attribute, Target}
 use Rattle.tables.specs.Tables.{Now}
 use Rattle.tables.specs.Rows.{side_of}
 use Rattle.history.specs.Faults.{History, HoldsAt, Holds, Faultless, Earliest}

@@ -1,14 +1,20 @@
 -- What the rules of rows say of the history that tables hold. Assumes nothing.
-use mathlib.Core.Path.{◌≡◌, refl, sym, subst}
+use mathlib.Core.Path.{◌≡◌, refl, sym, ap, ◌∙◌, subst}
+use Rattle.std.specs.Prelude.{Ok}
+use Rattle.answers.specs.declared.Outcome.{Outcome}
+use Rattle.answers.specs.Answers.{Answer}
+use Rattle.answers.specs.Numbers.{refuses}
 use mathlib.Core.Logic.{⊎_elim}
 use Prim.Native.Nat.{ℕ, ◌+◌, ◌*◌, ◌≤◌, ◌<◌}
 use native.Mathlib.Omega.{arith}
 use lib.ListN.{get_or}
-use Rattle.tables.specs.declared.rows.Side.{Side}
-use Rattle.tables.specs.declared.rows.Side.TheVariants.{Attribute, Target}
+use Rattle.tables.specs.Rows.{Side}
+use Rattle.tables.specs.Rows.{Attribute, Target}
 use Rattle.tables.specs.Tables.{Now, NodeRow, EdgeRow, edge_width, edge_at, Tables, node_in, edge_in}
 use Rattle.tables.specs.Rows.{side_of}
 use Rattle.tables.specs.Rules.{NodeRule, EdgeRule, Obeys}
+use Rattle.tables.specs.Says.{history_says}
+use Rattle.tables.proofs.GivesLaws.{obeys_tells}
 use Rattle.history.specs.Faults.{History, held}
 use Rattle.history.specs.Ruled.{EdgeFits, Ruled, LentRows}
 use Rattle.history.specs.Places.{NodesBelow}
@@ -52,6 +58,10 @@ obeys_ruled L o =
           record { attribute = r.attribute; target = r.target; begins = r.label.begins; ends = r.label.ends };
     }
 
+-- what the rules pass over obeys them
+pub passes_obey : (L : Tables) {a : Answer} {done : Outcome} → a ≡ history_says L → a ≡ Ok done → Obeys L
+passes_obey L e f = (obeys_tells L).0 (ap (λ a. refuses a) (sym e ∙ f))
+
 pub obeys_lent : (L : Tables) → Obeys L
     → LentRows L.start L.nodes.count L.edges.numbers L.edges.count L.refs.numbers L.refs.count
 obeys_lent L o =
@@ -60,6 +70,10 @@ obeys_lent L o =
       ref_rows = omega (arith, o.sizes.refs.whole);
       ruled = obeys_ruled L o;
     }
+
+pub passes_lent : (L : Tables) {a : Answer} {done : Outcome} → a ≡ history_says L → a ≡ Ok done
+    → LentRows L.start L.nodes.count L.edges.numbers L.edges.count L.refs.numbers L.refs.count
+passes_lent L e f = obeys_lent L (passes_obey L e f)
 
 -- where the containment table is of 32-bit numbers, no label passes Now
 pub held_ends : (L : Tables) → ((k : ℕ) → get_or L.edges.numbers k 0 ≤ Now) → (i : ℕ) → i < (held L).edges

@@ -14,14 +14,14 @@ use Rattle.ground.proofs.LeastLaws.{least_tells, least_none}
 use Rattle.answers.specs.declared.Kind.{Kind}
 use Rattle.answers.specs.declared.Kind.TheVariants.{Gap}
 use Rattle.answers.specs.declared.Fault.{Fault}
-use Rattle.answers.specs.declared.Answer.{Answer}
-use Rattle.answers.specs.declared.Answer.TheVariants.{Faulty}
+use Rattle.answers.specs.Answers.{Answer}
+use Rattle.answers.specs.Answers.{Faulty}
 use Rattle.answers.specs.Numbers.{code_of, refuses, passed}
 use Rattle.answers.specs.Kinds.{kinds, shown_kinds}
 use Rattle.answers.specs.Refusals.{fault}
 use Rattle.answers.proofs.KindLaws.{code_unique, every_kind, is_in, kind_listed, in_here, in_more, in_cases, every_in}
 use Rattle.answers.proofs.KindLaws.{rises, rises_first, rises_rest}
-use Rattle.answers.proofs.AnswerLaws.{faulty_refuses, first_refuses, first_passes}
+use Rattle.answers.proofs.AnswerLaws.{first_refuses, first_passes}
 use Rattle.history.specs.Faults.{History, HoldsAt, Holds, Ahead, GapAside}
 use Rattle.history.specs.Ruled.{Ruled}
 use Rattle.history.specs.Places.{places, Names, none, first}
@@ -40,7 +40,7 @@ module _ (H : History) (t : ℕ) (k : Kind) {p : ℕ} (e : p ≡ least (holds H 
   unfolding say
   say_found ks h =
       let l = line_found h in
-      sym (first_refuses (line_says H t k) (say H t ks) (ap (λ a. refuses a) l ∙ faulty_refuses t (fault k p)) ∙ l)
+      sym (first_refuses (line_says H t k) (say H t ks) (ap (λ a. refuses a) l) ∙ l)
 
   pub say_on : (ks : List Kind) → places H k ≤ p → {a : Answer} → a ≡ say H t ks → a ≡ say H t (k ∷ ks)
   unfolding say

@@ -6,7 +6,7 @@ use Prim.Native.Nat.{ℕ, ◌+◌, ◌≤◌, ◌<◌, min}
 use native.Mathlib.Decide.{ℕ_discrete, dec_le}
 use native.Mathlib.Omega.{arith}
 use Rattle.ground.specs.Least.{Any}
-use Rattle.ground.proofs.LeastLaws.{not_lt→le, below_suc, any_dec}
+use Rattle.ground.proofs.LeastLaws.{below_suc, any_dec}
 use Rattle.tables.specs.declared.label.Label.{Label}
 use Rattle.tables.specs.Tables.{Now}
 use Rattle.tables.specs.Labels.{instant_of, label_of}
@@ -18,10 +18,6 @@ use Rattle.history.specs.Until.{Starts, Ends, Still, Calm, Stops, LargestInstant
 pub largest_instant_unique : {P : ℕ → Type 0} {u v : ℕ} → LargestInstant P u → LargestInstant P v → u ≡ v
 largest_instant_unique {u = u} {v = v} a b =
     omega (arith, a.largest v b.instant b.here, b.largest u a.instant a.here)
-
--- an instant after which the property fails
-pub largest_at : {P : ℕ → Type 0} {u : ℕ} → u ≤ Now → P u → ((v : ℕ) → u < v → P v → ⊥) → LargestInstant P u
-largest_at h p f = record { instant = h; here = p; largest = λ v g q. not_lt→le (λ l. f v l q) }
 
 -- what holds of an instant holds of those before it
 abbrev Falls : (ℕ → Type 0) → Type 0
@@ -72,11 +68,8 @@ module _ (t : ℕ) where
       let f : l.from ≡ from = ap (λ (x : Label). x.from) e in
       rw (f, q) at v
 
-  -- of no label, and of one label more
+  -- of one label more
   module _ (from to : ℕ → ℕ) where
-    pub until_none : LargestInstant (Calm t 0 from to) Now
-    until_none = record { instant = omega arith; here = λ i h. absurd (omega arith); largest = λ v h c. h }
-
     pub until_more : {n a b : ℕ} → LargestInstant (Calm t n from to) a → LargestInstant (Still t (from n) (to n)) b
         → LargestInstant (Calm t (n + 1) from to) (min a b)
     until_more {n} {a} {b} l r =

@@ -6,8 +6,8 @@ use native.Mathlib.Decide.{ℕ_discrete}
 use native.Mathlib.Nat.{le_antisymm}
 use Rattle.ground.proofs.LeastLaws.{not_lt→le}
 use Rattle.answers.specs.declared.Fault.{Fault}
-use Rattle.answers.specs.declared.Answer.{Answer}
-use Rattle.answers.specs.declared.Answer.TheVariants.{Faulty}
+use Rattle.answers.specs.Answers.{Answer}
+use Rattle.answers.specs.Answers.{Faulty}
 use Rattle.answers.specs.declared.Kind.TheVariants as kind
 use Rattle.answers.specs.Numbers.{code_of, passed}
 use Rattle.answers.specs.Refusals.{fault}

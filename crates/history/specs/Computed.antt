@@ -22,13 +22,13 @@ use Rattle.std.specs.Prelude.{Bool, not, cond, ◌&&◌, ◌||◌, List, [], ◌
 use Rattle.ground.specs.Searches.{any}
 use Rattle.answers.specs.declared.Kind.{Kind}
 use Rattle.answers.specs.declared.Kind.TheVariants.{Overlap, Gap, Outside, Cycle, Late, Dangling, Double}
-use Rattle.answers.specs.declared.Answer.{Answer}
-use Rattle.answers.specs.declared.Answer.TheVariants.{Faulty}
+use Rattle.answers.specs.Answers.{Answer}
+use Rattle.answers.specs.Answers.{Faulty}
 use Rattle.answers.specs.Kinds.{kinds, shown_kinds}
 use Rattle.answers.specs.Refusals.{fault, ◌⨾◌}
 use Rattle.answers.specs.Numbers.{refuses, passed}
-use Rattle.tables.specs.declared.rows.Side.{Side}
-use Rattle.tables.specs.declared.rows.Side.TheVariants.{Attribute, Target}
+use Rattle.tables.specs.Rows.{Side}
+use Rattle.tables.specs.Rows.{Attribute, Target}
 use Rattle.tables.specs.Tables.{Now, EdgeRow, RefRow}
 use Rattle.tables.specs.Labels.{during}
 use Rattle.tables.specs.Rows.{side_of}

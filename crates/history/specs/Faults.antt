@@ -3,8 +3,8 @@ use Rattle.std.specs.Prelude.{◌≡◌, ◌≢◌, ◌⊎◌, List, [], ◌∷�
 use Rattle.answers.specs.declared.Fault.{Fault}
 use Rattle.answers.specs.declared.Kind.{Kind}
 use Rattle.answers.specs.declared.Kind.TheVariants as kind
-use Rattle.answers.specs.declared.Answer.{Answer}
-use Rattle.answers.specs.declared.Answer.TheVariants.{Faulty}
+use Rattle.answers.specs.Answers.{Answer}
+use Rattle.answers.specs.Answers.{Faulty}
 use Rattle.answers.specs.Numbers.{code_of, passed}
 use Rattle.tables.specs.Tables.{Now, During, EdgeRow, RefRow, edge_at, ref_at, Tables}
 

@@ -2,6 +2,7 @@ pub mod Faults
 pub mod Sound
 pub mod Document
 pub mod Ruled
+pub mod Taken
 pub mod Places
 pub mod Changes
 pub mod Until

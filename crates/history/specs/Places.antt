@@ -9,10 +9,10 @@ use Rattle.std.specs.Prelude.{◌≡◌, ℕ, ◌<◌}
 use Rattle.answers.specs.declared.Fault.{Fault}
 use Rattle.answers.specs.declared.Kind.{Kind}
 use Rattle.answers.specs.declared.Kind.TheVariants.{Overlap, Gap, Outside, Cycle, Late, Dangling, Double}
-use Rattle.answers.specs.declared.Answer.{Answer}
-use Rattle.answers.specs.declared.Answer.TheVariants.{Faulty}
+use Rattle.answers.specs.Answers.{Answer}
+use Rattle.answers.specs.Answers.{Faulty}
 use Rattle.answers.specs.Numbers.{passed}
-use Rattle.tables.specs.declared.rows.Side.{Side}
+use Rattle.tables.specs.Rows.{Side}
 use Rattle.tables.specs.Tables.{During, EdgeRow}
 use Rattle.tables.specs.Rows.{side_of}
 use Rattle.history.specs.Faults.{History, Refers, Here, First}

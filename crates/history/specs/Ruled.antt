@@ -1,6 +1,6 @@
 -- What the rules say of rows by number: what theory and code over a history ask.
 --   EdgeFits, RefFits   what the rules of rows say of a row of a history; Ruled: of a history
---   LentRows            the tables hold so many rows, and the rows fit: what the code over a history asks of its slices
+--   LentRows            the tables hold so many rows, and the rows fit
 -- EdgeFits and RefFits ask less than EdgeRule and RefRule of tables/specs/Rules.antt. A history has no kinds: of
 -- them it is left that no row leads into the root. And a label may start at Now. Theory over rows by number needs only
 -- this, and code over a history asks no more. proofs/RuledLaws.antt: tables that obey the rules hold a Ruled history.

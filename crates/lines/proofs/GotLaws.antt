@@ -3,13 +3,25 @@
 use mathlib.Core.Bool.{Bool, true, false, cond}
 use mathlib.Core.List.{List, ◌++◌}
 use mathlib.Core.Path.{◌≡◌, refl, sym, ap}
-use Prim.Native.Nat.{ℕ}
+use Prim.Native.Nat.{ℕ, ◌+◌}
 use native.Mathlib.Omega.{arith}
-use Rattle.decimals.specs.declared.Num.{Num}
-use Rattle.decimals.specs.declared.Num.TheVariants.{Is, Missing}
-use Rattle.lines.specs.declared.read.Ended.TheVariants.{At, Wrong}
-use Rattle.lines.specs.Reads.{Got, got, wrong, and_then, on_line, refused_at_of, onto, then_number, is_got, got_of}
-use Rattle.lines.specs.Reads.{numbers_of, ended_of, place_of}
+use lib.Dec.{eqb}
+use lib.ListN.{get_or}
+use borrow.Author.Tests.{eqb-true}
+use Rattle.ground.proofs.TestLaws.{by_test}
+use Rattle.std.specs.Prelude.{Result, Ok, Err}
+use Rattle.decimals.specs.declared.Number.{Number}
+use Rattle.decimals.specs.declared.Wrong.{Wrong}
+use Rattle.decimals.specs.Reads.{number}
+use Rattle.decimals.proofs.ReadLaws.{number_same}
+use Rattle.lines.specs.Lines.{mark}
+use Rattle.lines.specs.Reads.{Got, got, wrong, and_then, on_line, refused_at_of, onto, marked, then_number}
+use Rattle.lines.specs.Reads.{is_got, got_of, numbers_of, ended_of, place_of}
+
+-- cases on a Result, with the equation
+pub by_result : {A E : Type 0} (r : Result A E) {C : Type 0} → ((x : A) → r ≡ Ok x → C) → ((x : E) → r ≡ Err x → C) → C
+by_result (Ok x) f g = f x refl
+by_result (Err x) f g = g x refl
 
 module _ {A : Type 0} where
   -- cases on what was read, with the equation
@@ -41,23 +53,15 @@ module _ {A : Type 0} where
   is_got_lem none (got a n) g = refl
   is_got_lem none (wrong p) g = let z : ◌≡◌ {A = ℕ} 0 1 = cc in absurd (omega arith)
 
-  pub end_got : (r : Got A) {a : A} {n : ℕ} → r ≡ got a n → ended_of r ≡ At n
-  unfolding ended_of
-  end_got r e = ap ended_of e
-
-  pub end_wrong : (r : Got A) {p : ℕ} → r ≡ wrong p → ended_of r ≡ Wrong p
-  unfolding ended_of
-  end_wrong r e = ap ended_of e
-
-  pub at_got : (r : Got A) (n : ℕ) → ended_of r ≡ At n → (a : A) × (r ≡ got a n)
+  pub at_got : (r : Got A) (n : ℕ) → ended_of r ≡ Ok n → (a : A) × (r ≡ got a n)
   unfolding ended_of
   at_got (got a m) n e = let q : m ≡ n = cc in (a, ap (got a) q)
   at_got (wrong p) n e = let z : ◌≡◌ {A = ℕ} 0 1 = cc in absurd (omega arith)
 
-  pub at_wrong : (r : Got A) (p : ℕ) → ended_of r ≡ Wrong p → r ≡ wrong p
+  pub at_wrong : (r : Got A) (x : Wrong) → ended_of r ≡ Err x → r ≡ wrong x.at
   unfolding ended_of
-  at_wrong (got a m) p e = let z : ◌≡◌ {A = ℕ} 0 1 = cc in absurd (omega arith)
-  at_wrong (wrong q) p e = let h : q ≡ p = cc in ap wrong h
+  at_wrong (got a m) x e = let z : ◌≡◌ {A = ℕ} 0 1 = cc in absurd (omega arith)
+  at_wrong (wrong q) x e = let h : ◌≡◌ {A = Wrong} (record { at = q }) x = cc in ap (λ (y : Wrong). wrong y.at) h
 
 module _ {A B : Type 0} (go : A → ℕ → Got B) where
   pub then_got : (r : Got A) {a : A} {n : ℕ} → r ≡ got a n → and_then r go ≡ go a n
@@ -99,11 +103,24 @@ unfolding onto
 wrong_onto us (got vs n) p e = let z : ◌≡◌ {A = ℕ} 0 1 = cc in absurd (omega arith)
 wrong_onto us (wrong q) p e = e
 
-pub got_number : (r : Num) (go : ℕ → ℕ → Got (List ℕ)) (vs : List ℕ) (n : ℕ) → then_number r go ≡ got vs n
-    → (u : ℕ) × (m : ℕ) × (r ≡ Is u m) × (go u m ≡ got vs n)
+pub got_number : (r : Result Number Wrong) (go : ℕ → ℕ → Got (List ℕ)) (vs : List ℕ) (n : ℕ)
+    → then_number r go ≡ got vs n
+    → (u : ℕ) × (m : ℕ) × (r ≡ number u m) × (go u m ≡ got vs n)
 unfolding then_number
-got_number (Missing p) go vs n e = let z : ◌≡◌ {A = ℕ} 0 1 = cc in absurd (omega arith)
-got_number (Is u m) go vs n e = (u, m, refl, e)
+got_number (Err x) go vs n e = let z : ◌≡◌ {A = ℕ} 0 1 = cc in absurd (omega arith)
+got_number (Ok x) go vs n e = (x.value, x.after, refl, e)
+
+-- what was read with its mark, was read, and the mark stands after it
+pub got_marked : (w : ℕ) (s : List ℕ) (r : Result Number Wrong) (v n : ℕ) → marked w s r ≡ number v n
+    → (m : ℕ) × (r ≡ number v m) × (get_or s m 0 ≡ mark w) × (m + 1 ≡ n)
+unfolding marked
+got_marked w s (Err x) v n e = let z : ◌≡◌ {A = ℕ} 0 1 = cc in absurd (omega arith)
+got_marked w s (Ok x) v n e =
+    by_test (eqb (get_or s x.after 0) (mark w))
+    (λ t.
+    let (a, b) = number_same {v = x.value} {n = x.after + 1} (rw t at e) in
+    (x.after, ap (λ (u : ℕ). number u x.after) a, eqb-true (get_or s x.after 0) (mark w) t, b))
+    (λ t. let f = rw t at e in let z : ◌≡◌ {A = ℕ} 0 1 = cc in absurd (omega arith))
 
 pub got_cond : (b : Bool) (p : ℕ) (r : Got (List ℕ)) (vs : List ℕ) (n : ℕ) → cond b r (wrong p) ≡ got vs n
     → (b ≡ true) × (r ≡ got vs n)

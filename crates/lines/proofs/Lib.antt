@@ -6,5 +6,4 @@ pub mod FillLaws
 pub mod WriteLaws
 pub mod PlaceLaws
 pub mod PlanLaws
-pub mod EndLaws
 pub mod ByteCases

@@ -4,7 +4,6 @@ use mathlib.Core.Path.{◌≡◌, refl, sym, ap, ap₂, ◌∙◌}
 use Prim.Native.Nat.{ℕ, zero, suc, ◌+◌, ◌*◌, ◌≤◌, ◌<◌}
 use native.Mathlib.Omega.{arith}
 use native.Mathlib.Nat.{zero-mul, suc-mul}
-use lib.Dec.{eqb}
 use lib.ListN.{length, get_or, drop, take, replicate, length-append, length-drop, length-replicate, take-append-drop}
 use lib.Seq.{take-add, take_at, drop_at}
 use borrow.Author.Tests.{eqb-true, eq-eqb}
@@ -14,9 +13,10 @@ use Rattle.decimals.specs.Decimals.{nought}
 use Rattle.lines.specs.declared.form.Form.{Form}
 use Rattle.lines.specs.Lines.{width_of, is_end_of, mark, number_text, numbers_text, line_text, lines_of, lines_text, row_of}
 use Rattle.lines.specs.Lines.{NumberOk, NumbersOk, RowOk, LinesOk}
-use Rattle.lines.specs.Reads.{got, and_then, begun_at, has_at, on_line, onto, then_number, numbers_at, line_at, lines_at}
+use Rattle.lines.specs.Reads.{got, and_then, begun_at, has_at, on_line, onto, marked, marked_at, then_number}
+use Rattle.lines.specs.Reads.{numbers_at, line_at, lines_at}
 use Rattle.lines.specs.Reads.{number_at}
-use Rattle.lines.proofs.GotLaws.{got_then, got_line, got_onto, got_number, got_cond}
+use Rattle.lines.proofs.GotLaws.{got_then, got_line, got_onto, got_number, got_marked, got_cond}
 use Rattle.lines.proofs.NumberLaws.{has_is, has_of, number_is, number_of}
 
 -- ---- the numbers of a line
@@ -53,16 +53,16 @@ numbers_is f s zero i vs n e =
     let b : i ≡ n = cc in
     rw (← a, ← b) (record { ok = tt; long = refl; stands = stands_nil s i })
 numbers_is f s (suc w) i vs n e =
-    let (u, m, r, e₁) = got_number (number_at f (is_end_of f w) s i) _ vs n e in
-    let (b, e₂) = got_cond (eqb (get_or s m 0) (mark w)) m _ vs n e₁ in
-    let (ws, e₃, q) = got_onto (u ∷ []) (numbers_at f s w (m + 1)) vs n e₂ in
-    let (ok, st) = number_is f (is_end_of f w) s i u m r in
-    rw q (numbers_cons f s w i u m ws n ok st (eqb-true (get_or s m 0) (mark w) b) (numbers_is f s w (m + 1) ws n e₃))
+    let (u, after, r, e₁) = got_number (marked_at f s w i) _ vs n e in
+    let (m, r₁, b, a) = got_marked w s (number_at f (is_end_of f w) s i) u after r in
+    let (ws, e₂, q) = got_onto (u ∷ []) (numbers_at f s w after) vs n e₁ in
+    let (ok, st) = number_is f (is_end_of f w) s i u m r₁ in
+    rw q (numbers_cons f s w i u m ws n ok st b (numbers_is f s w (m + 1) ws n (ap (numbers_at f s w) a ∙ e₂)))
 
 pub numbers_of_lem : (f : Form) (s : List ℕ) (w i : ℕ) (vs ys : List ℕ) → NumbersOk f w vs
     → drop i s ≡ numbers_text f w vs ++ ys
     → numbers_at f s w i ≡ got (take w vs) (i + length (numbers_text f w vs))
-unfolding numbers_at numbers_text then_number onto
+unfolding numbers_at numbers_text then_number marked onto
 numbers_of_lem f s zero i vs ys ok e = ap (got []) (omega arith)
 numbers_of_lem f s (suc w) i [] ys ok e = absurd ok
 numbers_of_lem f s (suc w) i (v ∷ vs) ys ok e =

@@ -6,7 +6,7 @@ use Prim.Native.Nat.{ℕ, zero, suc, ◌+◌, ◌-◌, ◌*◌, ◌≤◌, ◌<�
 use native.Mathlib.Omega.{arith}
 use native.Mathlib.Numerals.{add-one}
 use lib.Dec.{eqb}
-use lib.ListN.{length, get_or, set, drop, length-set, length-append, drop_of_length-le}
+use lib.ListN.{length, get_or, set, drop, drop_of_length-le, length-append}
 use lib.Seq.{sets, length-sets, drop-drop, get_or-drop}
 use Rattle.ground.specs.Stores.{Put}
 use Rattle.ground.specs.Lists.{joined}
@@ -22,30 +22,20 @@ use Rattle.lines.specs.Lines.{width_of, end_text, number_text, numbers_from, num
 use Rattle.lines.specs.Lines.{lines_of, lines_text, mark, is_end_of}
 use Rattle.lines.specs.Sizes.{most_number, most_key, most_width, most_line, Long, Countable, CountableLines, Writable}
 use Rattle.lines.specs.Sizes.{WritableLines}
-use Rattle.lines.proofs.FillLaws.{line_room}
+use Rattle.lines.proofs.FillLaws.{row_within, row_next}
 
--- ---- a run of bytes: j of them have been put, up to place i of out
+-- ---- a run of bytes, from byte j on
 
-pub record Putting (bytes out₀ : List ℕ) (at : ℕ) (out : List ℕ) (i j : ℕ) : Type 0 where
-  pub held : sets out₀ at bytes ≡ sets out i (drop j bytes)
-  pub place : i ≡ at + j
-  pub reached : j ≤ length bytes
-  pub long : length out ≡ length out₀
+pub put_turn : (out bytes : List ℕ) (at j : ℕ) {c : ℕ} → j < length bytes → c ≡ get_or bytes j 0
+    → sets out (at + j) (drop j bytes) ≡ sets (set out (at + j) c) (at + (j + 1)) (drop (j + 1) bytes)
+put_turn out bytes at j {c} h e =
+    let n : suc (at + j) ≡ at + (j + 1) = omega arith in
+    rw e
+    (ap (sets out (at + j)) (drop_step bytes j h)
+    ∙ ap (λ (i : ℕ). sets (set out (at + j) (get_or bytes j 0)) i (drop (j + 1) bytes)) n)
 
-module _ {bytes out₀ : List ℕ} {at : ℕ} {out : List ℕ} {i j : ℕ} (p : Putting bytes out₀ at out i j) where
-  pub put_turn : j < length bytes → Putting bytes out₀ at (set out i (get_or bytes j 0)) (i + 1) (j + 1)
-  put_turn h =
-      let c = get_or bytes j 0 in
-      record {
-        held = p.held ∙ ap (sets out i) (drop_step bytes j h)
-            ∙ ap (λ (n : ℕ). sets (set out i c) n (drop (j + 1) bytes)) (sym (add-one i));
-        place = omega arith;
-        reached = omega arith;
-        long = length-set out i c ∙ p.long;
-      }
-
-  pub put_done : length bytes ≤ j → Put out₀ at bytes out i
-  put_done h = record { held = sym (p.held ∙ ap (sets out i) (drop_of_length-le bytes h)); after = omega arith }
+pub put_done : (out bytes : List ℕ) (i j : ℕ) → length bytes ≤ j → sets out i (drop j bytes) ≡ out
+put_done out bytes i j h = ap (sets out i) (drop_of_length-le bytes h)
 
 -- ---- a number
 
@@ -57,15 +47,7 @@ pub number_finite : (last : Bool) (v : ℕ) → last ≡ false → number_text l
 unfolding number_text
 number_finite last v e = rw e
 
--- ---- the numbers of a line: `left` are to be put, from index j of the table on, to place i of out: that makes of
--- out what was to be made of out₀
-
-pub record Writing (f : Form) (table : List ℕ) (base : ℕ) (out₀ : List ℕ) (at left j : ℕ) (out : List ℕ) (i : ℕ) :
-    Type 0 where
-  pub held : sets out₀ at (numbers_from f table base) ≡ sets out i (numbers_text f left (drop j table))
-  pub place : at + length (numbers_from f table base) ≡ i + length (numbers_text f left (drop j table))
-  pub room : j + left ≡ base + f.columns
-  pub long : length out ≡ length out₀
+-- ---- the numbers of a line
 
 module _ (f : Form) (table : List ℕ) (left w j : ℕ) (b : Bool) (more : left ≡ suc w) (e : b ≡ is_end_of f w)
     (h : j < length table) where
@@ -79,59 +61,69 @@ module _ (f : Form) (table : List ℕ) (left w j : ℕ) (b : Bool) (more : left 
   unfolding numbers_text
   text_step = rw (more, drop_step table j h, e)
 
-  pub text_step_length : length (numbers_text f left (drop j table)) ≡ length next + suc (length rest)
-  text_step_length = ap length text_step ∙ length-append next (mark w ∷ rest)
-
 no_numbers : (f : Form) (left : ℕ) (vs : List ℕ) → left ≤ 0 → numbers_text f left vs ≡ []
 unfolding numbers_text
 no_numbers f left vs z = let q : left ≡ 0 = omega arith in rw q
 
-module _ {f : Form} {table : List ℕ} {base : ℕ} {out₀ : List ℕ} {at left j : ℕ} {out : List ℕ} {i : ℕ}
-    (p : Writing f table base out₀ at left j out i) where
-  module _ (some : 0 < left) (r : Writable f table base out₀ at) where
-    pub write_inside : j < length table
-    write_inside = omega (arith, r.row, p.room)
+-- those of the row at index base, from its number j on
+abbrev pub numbers_left : Form → List ℕ → ℕ → ℕ → List ℕ
+numbers_left f table base j = numbers_text f (f.columns - j) (drop (base + j) table)
 
-    module _ {b : Bool} (e : b ≡ is_end_of f (left - 1)) where
-      abbrev this_number : List ℕ
-      this_number = number_text b (get_or table j 0)
+-- the next is an end, if b
+module _ (f : Form) (table : List ℕ) (base j : ℕ) (b : Bool) (some : j < f.columns)
+    (row : base + f.columns ≤ length table)
+    (e : b ≡ is_end_of f (f.columns - 1 - j)) where
+  abbrev this_number : List ℕ
+  this_number = number_text b (get_or table (base + j) 0)
 
-      abbrev later_numbers : List ℕ
-      later_numbers = numbers_text f (left - 1) (drop (j + 1) table)
+  pub left_step : numbers_left f table base j
+      ≡ this_number ++ (mark (f.columns - 1 - j) ∷ numbers_left f table base (j + 1))
+  left_step =
+      let m : f.columns - (j + 1) ≡ f.columns - 1 - j = omega arith in
+      let n : base + (j + 1) ≡ base + j + 1 = omega arith in
+      rw (m, n) (text_step f table (f.columns - j) (f.columns - 1 - j) (base + j) b (omega arith) e (omega arith))
 
-      abbrev number_step : length (numbers_text f left (drop j table)) ≡ length this_number + suc (length later_numbers)
-      number_step = text_step_length f table left (left - 1) j b (omega arith) e write_inside
+  pub left_length : length (numbers_left f table base j) ≡ length this_number
+      + suc (length (numbers_left f table base (j + 1)))
+  left_length =
+      ap length left_step
+      ∙ length-append this_number (mark (f.columns - 1 - j) ∷ numbers_left f table base (j + 1))
 
-      -- the number and its mark have room
-      pub write_fits : i + length this_number < length out
-      write_fits = omega (arith, number_step, r.room, p.place, p.long)
+left_none : (f : Form) (table : List ℕ) (base j : ℕ) → f.columns ≤ j → numbers_left f table base j ≡ []
+left_none f table base j z = no_numbers f (f.columns - j) (drop (base + j) table) (omega arith)
 
-      pub write_turn : {n : ℕ} {out₁ : List ℕ} {c : ℕ} → Put out i this_number out₁ n → c ≡ mark (left - 1)
-          → Writing f table base out₀ at (left - 1) (j + 1) (set out₁ n c) (n + 1)
-      write_turn {n} {out₁} {c} q ec =
-          record {
-            held = p.held ∙ ap (sets out i) (text_step f table left (left - 1) j b (omega arith) e write_inside)
-                ∙ sets_append out i this_number (mark (left - 1) ∷ later_numbers)
-                ∙ rw (q.after, q.held, ec, add-one (i + length this_number));
-            place = omega (arith, number_step);
-            room = omega arith;
-            long = length-set out₁ n c ∙ ap length q.held ∙ length-sets out i this_number ∙ p.long;
-          }
+-- the numbers from j on are to be put to place i of out: that makes of out what was to be made of out₀
+pub record Writing (f : Form) (table : List ℕ) (base : ℕ) (out₀ : List ℕ) (at j : ℕ) (out : List ℕ) (i : ℕ) :
+    Type 0 where
+  pub held : sets out₀ at (numbers_from f table base) ≡ sets out i (numbers_left f table base j)
+  pub place : at + length (numbers_from f table base) ≡ i + length (numbers_left f table base j)
 
-  pub write_done : left ≤ 0 → Put out₀ at (numbers_from f table base) out i
+module _ {f : Form} {table : List ℕ} {base : ℕ} {out₀ : List ℕ} {at j : ℕ} {out : List ℕ} {i : ℕ}
+    (p : Writing f table base out₀ at j out i) where
+  module _ (some : j < f.columns) (r : Writable f table base out₀ at) (long : length out ≡ length out₀) {b : Bool}
+      (e : b ≡ is_end_of f (f.columns - 1 - j)) where
+    -- the number and its mark have room
+    pub write_fits : i + length (number_text b (get_or table (base + j) 0)) < length out
+    write_fits = omega (arith, left_length f table base j b some r.row e, r.room, p.place)
+
+    pub write_turn : {n : ℕ} {out₁ : List ℕ} {c : ℕ} → Put out i (number_text b (get_or table (base + j) 0)) out₁ n
+        → c ≡ mark (f.columns - 1 - j)
+        → Writing f table base out₀ at (j + 1) (set out₁ n c) (n + 1)
+    write_turn {n} {out₁} {c} q ec =
+        let x = number_text b (get_or table (base + j) 0) in
+        record {
+          held = p.held ∙ ap (sets out i) (left_step f table base j b some r.row e)
+              ∙ sets_append out i x (mark (f.columns - 1 - j) ∷ numbers_left f table base (j + 1))
+              ∙ rw (q.after, q.held, ec, add-one (i + length x));
+          place = omega (arith, left_length f table base j b some r.row e, q.after);
+        }
+
+  pub write_done : f.columns ≤ j → Put out₀ at (numbers_from f table base) out i
   write_done z =
-      let e = no_numbers f left (drop j table) z in
+      let e = left_none f table base j z in
       record { held = sym (p.held ∙ ap (sets out i) e); after = omega (arith, ap length e) }
 
--- ---- lines: `left` are to be put, from index j of the table on, to place i of out: that makes of out what was to be
--- made of out₀
-
-pub record WritingLines (k : List ℕ) (f : Form) (table : List ℕ) (m : ℕ) (out₀ : List ℕ) (at left j : ℕ)
-    (out : List ℕ) (i : ℕ) : Type 0 where
-  pub held : sets out₀ at (lines_text k f m table) ≡ sets out i (lines_text k f left (drop j table))
-  pub place : at + length (lines_text k f m table) ≡ i + length (lines_text k f left (drop j table))
-  pub room : j + left * width_of f ≡ m * width_of f
-  pub long : length out ≡ length out₀
+-- ---- lines
 
 module _ (k : List ℕ) (f : Form) (table : List ℕ) (left w j : ℕ) (more : left ≡ suc w) where
   abbrev line : List ℕ
@@ -153,49 +145,64 @@ no_lines : (k : List ℕ) (f : Form) (left : ℕ) (vs : List ℕ) → left ≤ 0
 unfolding lines_of joined
 no_lines k f left vs z = let q : left ≡ 0 = omega arith in rw q
 
-module _ {k : List ℕ} {f : Form} {table : List ℕ} {m : ℕ} {out₀ : List ℕ} {at left j : ℕ} {out : List ℕ} {i : ℕ}
-    (p : WritingLines k f table m out₀ at left j out i) where
-  module _ (some : 0 < left) (r : WritableLines k f table m out₀ at) where
-    abbrev this_line : List ℕ
-    this_line = numbers_from f table j
+-- the lines from r on
+abbrev pub lines_left : List ℕ → Form → List ℕ → ℕ → ℕ → List ℕ
+lines_left k f table m r = lines_text k f (m - r) (drop (r * width_of f) table)
 
-    abbrev later_lines : List ℕ
-    later_lines = lines_text k f (left - 1) (drop (j + width_of f) table)
+module _ (k : List ℕ) (f : Form) (table : List ℕ) (m r : ℕ) (some : r < m) where
+  abbrev this_line : List ℕ
+  this_line = numbers_from f table (r * width_of f)
 
-    abbrev line_step : length (lines_text k f left (drop j table)) ≡ length k + length this_line + length later_lines
-    line_step = lines_step_length k f table left (left - 1) j (omega arith)
+  pub run_step : lines_left k f table m r ≡ (k ++ this_line) ++ lines_left k f table m (r + 1)
+  run_step =
+      rw (row_next (width_of f) r) (lines_step k f table (m - r) (m - (r + 1)) (r * width_of f) (omega arith))
 
-    pub write_row : j + width_of f ≤ length table
-    write_row = omega (arith, line_room (width_of f) left (m * width_of f) j some p.room, r.rows)
+  pub run_length : length (lines_left k f table m r)
+      ≡ length k + length this_line + length (lines_left k f table m (r + 1))
+  run_length =
+      rw (row_next (width_of f) r) (lines_step_length k f table (m - r) (m - (r + 1)) (r * width_of f) (omega arith))
+
+run_none : (k : List ℕ) (f : Form) (table : List ℕ) (m r : ℕ) → m ≤ r → lines_left k f table m r ≡ []
+run_none k f table m r z = no_lines k f (m - r) (drop (r * width_of f) table) (omega arith)
+
+-- the lines from r on are to be put to place i of out: that makes of out what was to be made of out₀
+pub record WritingLines (k : List ℕ) (f : Form) (table : List ℕ) (m : ℕ) (out₀ : List ℕ) (at r : ℕ) (out : List ℕ)
+    (i : ℕ) : Type 0 where
+  pub held : sets out₀ at (lines_text k f m table) ≡ sets out i (lines_left k f table m r)
+  pub place : at + length (lines_text k f m table) ≡ i + length (lines_left k f table m r)
+
+module _ {k : List ℕ} {f : Form} {table : List ℕ} {m : ℕ} {out₀ : List ℕ} {at r : ℕ} {out : List ℕ} {i : ℕ}
+    (p : WritingLines k f table m out₀ at r out i) where
+  module _ (some : r < m) (ask : WritableLines k f table m out₀ at) (long : length out ≡ length out₀) where
+    abbrev row_line : List ℕ
+    row_line = numbers_from f table (r * width_of f)
 
     -- the line has its room
-    pub line_fits : i + length k + length this_line ≤ length out
-    line_fits = omega (arith, line_step, r.room, p.place, p.long)
+    pub line_fits : i + length k + length row_line ≤ length out
+    line_fits = omega (arith, run_length k f table m r some, ask.room, p.place)
 
-    pub write_ready : {n : ℕ} {out₁ : List ℕ} → Put out i k out₁ n → Writable f table j out₁ n
+    pub write_ready : {n : ℕ} {out₁ : List ℕ} → Put out i k out₁ n → Writable f table (r * width_of f) out₁ n
     write_ready {n} {out₁} a =
         record {
-          row = omega (arith, write_row);
+          row = omega (arith, row_within (width_of f) r m some, ask.rows);
           room = omega (arith, line_fits, a.after, ap length a.held ∙ length-sets out i k);
         }
 
     pub write_line : {n₁ : ℕ} {out₁ : List ℕ} {n₂ : ℕ} {out₂ : List ℕ} → Put out i k out₁ n₁
-        → Put out₁ n₁ this_line out₂ n₂
-        → WritingLines k f table m out₀ at (left - 1) (j + width_of f) out₂ n₂
+        → Put out₁ n₁ row_line out₂ n₂
+        → WritingLines k f table m out₀ at (r + 1) out₂ n₂
     write_line a b =
         let both = put_append a b in
         record {
-          held = p.held ∙ ap (sets out i) (lines_step k f table left (left - 1) j (omega arith))
-              ∙ sets_append out i (k ++ this_line) later_lines
+          held = p.held ∙ ap (sets out i) (run_step k f table m r some)
+              ∙ sets_append out i (k ++ row_line) (lines_left k f table m (r + 1))
               ∙ rw (both.held, both.after);
-          place = omega (arith, line_step, both.after, length-append k this_line);
-          room = line_room (width_of f) left (m * width_of f) j some p.room;
-          long = ap length both.held ∙ length-sets out i (k ++ this_line) ∙ p.long;
+          place = omega (arith, run_length k f table m r some, both.after, length-append k row_line, p.place);
         }
 
-  pub lines_done : left ≤ 0 → Put out₀ at (lines_text k f m table) out i
+  pub lines_done : m ≤ r → Put out₀ at (lines_text k f m table) out i
   lines_done z =
-      let e = no_lines k f left (drop j table) z in
+      let e = run_none k f table m r z in
       record { held = sym (p.held ∙ ap (sets out i) e); after = omega (arith, ap length e) }
 
 -- ---- lengths
@@ -251,58 +258,42 @@ lines_short k f (suc m) vs a b h =
           (lines_text k f m (drop (width_of f) vs)),
     )
 
--- `left` numbers are to be counted, from index j of the table on
-pub record Counting (f : Form) (table : List ℕ) (base left j sum : ℕ) : Type 0 where
-  pub total : length (numbers_from f table base) ≡ sum + length (numbers_text f left (drop j table))
-  pub room : j + left ≡ base + f.columns
-  pub small : sum + left * (most_number + 1) ≤ f.columns * (most_number + 1)
+-- the numbers from j on are to be counted
+pub record Counting (f : Form) (table : List ℕ) (base j sum : ℕ) : Type 0 where
+  pub total : length (numbers_from f table base) ≡ sum + length (numbers_left f table base j)
+  pub small : sum + (f.columns - j) * (most_number + 1) ≤ f.columns * (most_number + 1)
 
-module _ {f : Form} {table : List ℕ} {base left j sum : ℕ} (p : Counting f table base left j sum) where
-  pub count_turn : {b : Bool} {n : ℕ} → 0 < left → Countable f table base → b ≡ is_end_of f (left - 1)
-      → Long (number_text b (get_or table j 0)) most_number n
-      → Counting f table base (left - 1) (j + 1) (sum + (n + 1))
+module _ {f : Form} {table : List ℕ} {base j sum : ℕ} (p : Counting f table base j sum) where
+  pub count_turn : {b : Bool} {n : ℕ} → j < f.columns → Countable f table base → b ≡ is_end_of f (f.columns - 1 - j)
+      → Long (number_text b (get_or table (base + j) 0)) most_number n
+      → Counting f table base (j + 1) (sum + (n + 1))
   count_turn {b} {n} some r e l =
       record {
-        total = omega (
-          arith,
-          text_step_length f table left (left - 1) j b (omega arith) e (omega (arith, r.row, p.room)),
-        );
-        room = omega arith;
-        small = omega arith;
+        total = omega (arith, left_length f table base j b some r.row e, p.total, l.count);
+        small = omega (arith, p.small, l.small);
       }
 
-  pub count_done : left ≤ 0 → Long (numbers_from f table base) (f.columns * (most_number + 1)) sum
-  count_done z = record { count = omega (arith, ap length (no_numbers f left (drop j table) z)); small = omega arith }
+  pub count_done : f.columns ≤ j → Long (numbers_from f table base) (f.columns * (most_number + 1)) sum
+  count_done z = record { count = omega (arith, ap length (left_none f table base j z)); small = omega arith }
 
--- `left` lines are to be counted, from index j of the table on
-pub record CountingLines (k : List ℕ) (f : Form) (table : List ℕ) (m left j sum : ℕ) : Type 0 where
-  pub total : length (lines_text k f m table) ≡ sum + length (lines_text k f left (drop j table))
-  pub room : j + left * width_of f ≡ m * width_of f
-  pub small : sum + left * most_line ≤ m * most_line
+-- the lines from r on are to be counted
+pub record CountingLines (k : List ℕ) (f : Form) (table : List ℕ) (m r sum : ℕ) : Type 0 where
+  pub total : length (lines_text k f m table) ≡ sum + length (lines_left k f table m r)
+  pub small : sum + (m - r) * most_line ≤ m * most_line
 
-module _ {k : List ℕ} {f : Form} {table : List ℕ} {m left j sum : ℕ} (p : CountingLines k f table m left j sum) where
-  module _ (some : 0 < left) (r : CountableLines k f table m) where
-    pub count_row : j + width_of f ≤ length table
-    count_row = omega (arith, line_room (width_of f) left (m * width_of f) j some p.room, r.rows)
-
-    pub count_ready : Countable f table j
-    count_ready = record { row = omega (arith, count_row); narrow = r.narrow }
-
-    module _ {n : ℕ} (l : Long (numbers_from f table j) (f.columns * (most_number + 1)) n) where
+module _ {k : List ℕ} {f : Form} {table : List ℕ} {m r sum : ℕ} (p : CountingLines k f table m r sum) where
+  module _ (some : r < m) (ask : CountableLines k f table m) where
+    module _ {n : ℕ} (l : Long (numbers_from f table (r * width_of f)) (f.columns * (most_number + 1)) n) where
       pub count_small : length k + n ≤ most_line
-      count_small = omega (arith, l.small, r.narrow, r.key)
+      count_small = omega (arith, l.small, ask.narrow, ask.key)
 
-      pub count_fits : sum + (length k + n) ≤ m * most_line
-      count_fits = omega (arith, count_small, p.small)
-
-      pub count_line : CountingLines k f table m (left - 1) (j + width_of f) (sum + (length k + n))
+      pub count_line : CountingLines k f table m (r + 1) (sum + (length k + n))
       count_line =
           record {
-            total = omega (arith, l.count, lines_step_length k f table left (left - 1) j (omega arith));
-            room = line_room (width_of f) left (m * width_of f) j some p.room;
+            total = omega (arith, l.count, run_length k f table m r some, p.total);
             small = omega (arith, count_small, p.small);
           }
 
-  pub count_lines_done : left ≤ 0 → Long (lines_text k f m table) (m * most_line) sum
+  pub count_lines_done : m ≤ r → Long (lines_text k f m table) (m * most_line) sum
   count_lines_done z =
-      record { count = omega (arith, ap length (no_lines k f left (drop j table) z)); small = omega arith }
+      record { count = omega (arith, ap length (run_none k f table m r z)); small = omega arith }

@@ -10,13 +10,11 @@ use Rattle.lines.specs.Lines.{width_of}
 use Rattle.lines.specs.Reads.{Got, is_got, numbers_at, lines_at, numbers_of, place_of}
 
 pub record Fillable (f : Form) (s : List ℕ) (from : ℕ) (out : List ℕ) (base : ℕ) : Type 0 where
-  pub reached : from ≤ length s
   pub room : base + f.columns ≤ length out
   pub good : is_got (numbers_at f s f.columns from) ≡ true
 
 -- [02:Ask 9] the second pass stores no number that lines leave out
 pub record FillableLines (k : List ℕ) (f : Form) (s : List ℕ) (m at : ℕ) (out : List ℕ) : Type 0 where
-  pub reached : at ≤ length s
   pub room : m * width_of f ≤ length out
   pub good : is_got (lines_at k f s m at) ≡ true
   pub shown : f.hidden ≡ 0

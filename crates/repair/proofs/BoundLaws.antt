@@ -1,5 +1,5 @@
 -- What the next start and the last end tell of the rows into a child, and what they ask for. Assumes nothing.
-use mathlib.Core.Path.{◌≡◌, refl, sym, ap, ◌∙◌}
+use mathlib.Core.Path.{◌≡◌, refl, sym, ap, subst, ◌∙◌}
 use mathlib.Core.Logic.Dec
 use mathlib.Core.Logic.{◌↔◌}
 use mathlib.Core.Bool.{◌&&◌}
@@ -7,6 +7,7 @@ use Prim.Native.Nat.{ℕ, zero, suc, ◌≤◌, ◌<◌}
 use native.Mathlib.Decide.{ℕ_discrete}
 use native.Mathlib.Omega.{arith}
 use lib.Dec.{ltb, eqb}
+use Rattle.std.specs.Prelude.{Option, Some, None}
 use Rattle.ground.specs.Least.{Any}
 use Rattle.ground.specs.Searches.{any}
 use Rattle.ground.proofs.TestLaws.{by_test, tells_and, tells_eq, tells_lt, tells_fail}
@@ -16,15 +17,13 @@ use Rattle.repair.specs.Repaired.{RowInto, OnlyEnds}
 use Rattle.repair.specs.Ends.{sooner, next_start, last_end, tied}
 
 -- t is before the next start, where there is one
-abbrev pub BeforeNext : ℕ → ℕ → Type 0
-BeforeNext next t = 0 < next → t < next
+abbrev pub BeforeNext : Option ℕ → ℕ → Type 0
+BeforeNext None t = Unit {0}
+BeforeNext (Some next) t = t < next
 
-sooner_tells : (a n t : ℕ) → 0 < a → BeforeNext (sooner a n) t ↔ ((t < a) × BeforeNext n t)
-sooner_tells a zero t h = (λ u. (u h, λ z. absurd (omega arith)), λ (l, u) z. l)
-sooner_tells a (suc n) t h = (
-  λ u. let l = u (omega arith) in (omega arith, λ z. omega arith),
-  λ (l, u) z. let r = u (omega arith) in omega arith,
-)
+sooner_tells : (a : ℕ) (next : Option ℕ) (t : ℕ) → (t < sooner a next) ↔ ((t < a) × BeforeNext next t)
+sooner_tells a None t = (λ h. (h, tt), λ (l, u). l)
+sooner_tells a (Some b) t = (λ h. (omega arith, omega arith), λ (l, u). omega arith)
 
 module _ (edge : ℕ → EdgeRow) (c : ℕ) where
   -- some of m rows into c has the number v as its start, or as its end
@@ -77,18 +76,25 @@ module _ (edge : ℕ → EdgeRow) (c : ℕ) where
         by_test (eqb (edge m).child c && ltb s (edge m).from)
         (λ e.
         let (q, h) = later.0 e in
-        let both = sooner_tells (edge m).from (next_start edge c s m) t (omega arith) in
+        let both = sooner_tells (edge m).from (next_start edge c s m) t in
         rw e (λ u. ((both.0 u).1, λ q h. (both.0 u).0), λ (u, l). both.1 (l q h, u)))
         (λ f. rw f (λ u. (u, λ q h. absurd (tells_fail later f (q, h))), λ (u, l). u))
 
     pub next_tells : (m : ℕ) → BeforeNext (next_start edge c s m) t
         ↔ ((i : ℕ) → RowInto edge m c i → s < (edge i).from → t < (edge i).from)
     unfolding next_start
-    next_tells zero = (λ u i r. absurd (omega arith), λ f z. absurd (omega arith))
+    next_tells zero = (λ u i r. absurd (omega arith), λ f. tt)
     next_tells (suc m) = (
       λ u. let (a, b) = (next_step m).0 u in (rows_suc BeforeStart m).0 ((next_tells m).0 a, b),
       λ f. let (a, b) = (rows_suc BeforeStart m).1 f in (next_step m).1 ((next_tells m).1 a, b),
     )
+
+  -- the next start after s is later than s
+  pub next_later : (s m : ℕ) → BeforeNext (next_start edge c s m) s
+  next_later s m = (next_tells s s m).1 (λ i r l. l)
+
+  pub next_some : (s m : ℕ) {n : ℕ} → Some n ≡ next_start edge c s m → s < n
+  next_some s m e = subst (λ next. BeforeNext next s) (sym e) (next_later s m)
 
 -- rows that differ in their ends alone have the same ties and the same next starts
 module _ (e d : ℕ → EdgeRow) (same : OnlyEnds e d) where

@@ -1,5 +1,4 @@
 pub mod TieLaws
-pub mod EndLaws
 pub mod StoreLaws
 pub mod BoundLaws
 pub mod StepLaws

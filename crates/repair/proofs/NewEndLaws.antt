@@ -6,12 +6,13 @@ use mathlib.Core.Logic.{◌↔◌}
 use Prim.Native.Nat.{ℕ, zero, suc, ◌+◌, ◌≤◌, ◌<◌}
 use native.Mathlib.Decide.{ℕ_discrete, dec_lt}
 use native.Mathlib.Omega.{arith}
+use Rattle.std.specs.Prelude.{Option, Some, None}
 use Rattle.ground.specs.Least.{Any, Least}
 use Rattle.ground.proofs.LeastLaws.{not_lt→le, not_le→lt, any_dec, least_exists}
 use Rattle.tables.specs.Tables.{EdgeRow}
 use Rattle.repair.specs.Repaired.{RowInto, Next, Largest, NewEnd}
 use Rattle.repair.specs.Ends.{next_start, last_end, end_before_of, new_end_of}
-use Rattle.repair.proofs.BoundLaws.{SomeRow, some_row_dec, BeforeNext, last_tells, last_upper, next_tells}
+use Rattle.repair.proofs.BoundLaws.{SomeRow, some_row_dec, BeforeNext, last_tells, last_upper, next_tells, next_later}
 
 module _ (edge : ℕ → EdgeRow) (m c : ℕ) where
   abbrev IsEnd : ℕ → Type 0
@@ -36,22 +37,22 @@ module _ (edge : ℕ → EdgeRow) (m c : ℕ) where
   last_sound i r = let (j, h, q) = last_found i r in record { end = (j, (h, q.0), q.1); most = last_upper edge c m }
 
 -- an end is before the next start, and reaches what is before it and no later than the last end
-end_before_next : (next last t : ℕ) → t ≤ end_before_of next last → BeforeNext next t
-end_before_next zero last t h z = absurd (omega arith)
-end_before_next (suc s) last t h z = omega arith
+end_before_next : (next : Option ℕ) (s last t : ℕ) → BeforeNext next s → t ≤ end_before_of next last → BeforeNext next t
+end_before_next None s last t l h = tt
+end_before_next (Some n) s last t l h = omega arith
 
-before_next_end : (next last t : ℕ) → t ≤ last → BeforeNext next t → t ≤ end_before_of next last
-before_next_end zero last t h u = h
-before_next_end (suc s) last t h u = let g = u (omega arith) in omega arith
+before_next_end : (next : Option ℕ) (last t : ℕ) → t ≤ last → BeforeNext next t → t ≤ end_before_of next last
+before_next_end None last t h u = h
+before_next_end (Some n) last t h u = omega arith
 
 -- where every instant is before the next start, there is none
-end_last : (next last : ℕ) → ((t : ℕ) → BeforeNext next t) → end_before_of next last ≡ last
-end_last zero last u = refl
-end_last (suc s) last u = let h = u (suc s) (omega arith) in absurd (omega arith)
+end_last : (next : Option ℕ) (last : ℕ) → ((t : ℕ) → BeforeNext next t) → end_before_of next last ≡ last
+end_last None last u = refl
+end_last (Some n) last u = let h = u n in absurd (omega arith)
 
 module _ (edge : ℕ → EdgeRow) (m c : ℕ) where
   -- the next start after that of row i; and that row i is alone up to t: every such start is after t
-  abbrev next : ℕ → ℕ
+  abbrev next : ℕ → Option ℕ
   next i = next_start edge c (edge i).from m
 
   abbrev Alone : ℕ → ℕ → Type 0
@@ -66,7 +67,10 @@ module _ (edge : ℕ → EdgeRow) (m c : ℕ) where
 
   module _ (i : ℕ) (r : RowInto edge m c i) where
     pub new_alone : (t : ℕ) → t ≤ new_end_of edge m i → Alone i t
-    new_alone t h = (alone_tells i t).0 (end_before_next (next i) (last_end edge c m) t (omega (arith, new_end_lem i r)))
+    new_alone t h =
+        let later = next_later edge c (edge i).from m in
+        (alone_tells i t).0
+        (end_before_next (next i) (edge i).from (last_end edge c m) t later (omega (arith, new_end_lem i r)))
 
     pub alone_new : (t : ℕ) → t ≤ last_end edge c m → Alone i t → t ≤ new_end_of edge m i
     alone_new t h f = omega (arith, new_end_lem i r, before_next_end (next i) (last_end edge c m) t h ((alone_tells i t).1 f))
@@ -100,16 +104,17 @@ module _ (edge : ℕ → EdgeRow) (m i : ℕ) (h : i < m) where
   next_alone : (s t : ℕ) → Next edge m i s → t < s → Alone edge m c i t
   next_alone s t x l j r b = let y = x.least j r b in omega arith
 
-  one_before : (n last s : ℕ) → ((t : ℕ) → BeforeNext n t ↔ Alone edge m c i t) → Next edge m i s
+  one_before : (n : Option ℕ) (last s : ℕ) → ((t : ℕ) → BeforeNext n t ↔ Alone edge m c i t) → Next edge m i s
       → end_before_of n last + 1 ≡ s
-  one_before zero last s tells x =
+  one_before None last s tells x =
       let (j, r, e) = x.start in
-      let g = (tells s).0 (λ z. absurd (omega arith)) j r (omega (arith, x.later)) in
+      let g = (tells s).0 tt j r (omega (arith, x.later)) in
       absurd (omega arith)
-  one_before (suc p) last s tells x =
+  one_before (Some n) last s tells x =
       let (j, r, e) = x.start in
-      let g = (tells p).0 (λ z. omega arith) j r (omega (arith, x.later)) in
-      omega (arith, not_lt→le (λ l. let u = (tells (suc p)).1 (next_alone s (suc p) x l) (omega arith) in omega arith))
+      let below : n ≤ s = not_lt→le (λ l. let g = (tells s).0 l j r (omega (arith, x.later)) in omega arith) in
+      let above : s ≤ n = not_lt→le (λ l. let u = (tells n).1 (next_alone s n x l) in omega arith) in
+      omega (arith, x.later)
 
   pub new_end_sound : NewEnd edge m i (new_end_of edge m i)
   new_end_sound =

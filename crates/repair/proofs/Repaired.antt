@@ -21,8 +21,8 @@ use Prim.Native.Nat.{ℕ, ◌≤◌, ◌<◌}
 use lib.ListN.{length}
 use Rattle.ground.specs.Least.{Before, Smallest}
 use Rattle.ground.proofs.TestLaws.{by_test}
-use Rattle.answers.specs.declared.Answer.{Answer}
-use Rattle.answers.specs.declared.Answer.TheVariants.{Done, Tie}
+use Rattle.answers.specs.Answers.{Answer}
+use Rattle.answers.specs.Answers.{Done, Tie}
 use Rattle.answers.specs.Numbers.{refuses}
 use Rattle.tables.specs.Tables.{edge_at, Tables, table, node_in, edge_in}
 use Rattle.tables.specs.Rows.{HasEdges}

@@ -1,12 +1,14 @@
 -- The computed answer and the computed table are those that the words allow. Assumes nothing.
 use mathlib.Core.Path.{◌≡◌, refl, sym, ap, ◌∙◌}
 use mathlib.Core.List.{List}
-use Prim.Native.Nat.{ℕ, ◌≤◌}
-use Rattle.ground.specs.Least.{Before, Least}
-use Rattle.ground.specs.Searches.{least}
+use Prim.Native.Nat.{ℕ}
+use Rattle.std.specs.Prelude.{Option, Some, None}
+use Rattle.ground.specs.Least.{Before, Smallest}
+use Rattle.ground.specs.Searches.{Finds}
+use Rattle.ground.specs.Searches.{found}
 use Rattle.ground.proofs.TestLaws.{by_test, by_lt}
-use Rattle.ground.proofs.LeastLaws.{least_unique, least_none, least_tells}
-use Rattle.answers.specs.declared.Answer.{Answer}
+use Rattle.ground.proofs.LeastLaws.{finds_tells, found_some, found_none}
+use Rattle.answers.specs.Answers.{Answer}
 use Rattle.answers.specs.Numbers.{refuses}
 use Rattle.tables.specs.Tables.{edge_at, with_end, Table, Tables, edge_in}
 use Rattle.tables.specs.Rows.{HasEdges}
@@ -51,36 +53,41 @@ module _ (L : Tables) where
   abbrev rows : ℕ
   rows = L.edges.count
 
-  first_tied : Least (Tied (edge_in L)) rows (least (tied (edge_in L)) rows)
-  first_tied = least_tells _ _ rows (λ i h. tied_tells (edge_in L) i)
+  first_tied : Finds (Tied (edge_in L)) rows (found (tied (edge_in L)) rows)
+  first_tied = finds_tells _ _ rows (λ i h. tied_tells (edge_in L) i)
 
   pub obeys_mended : Obeys L → Mended L.edges (repaired L.edges.numbers rows)
   obeys_mended o = mended_repaired L.edges (obeys_lent L o).edge_rows
 
-  -- where no row is tied, the search for one ends past the rows
-  none_first : Before (Tied (edge_in L)) rows → rows ≤ least (tied (edge_in L)) rows
-  none_first none = by_lt (least (tied (edge_in L)) rows) rows (λ h. absurd (none _ h (first_tied.here h))) (λ h. h)
+  -- the search for a tied row finds the smallest, and none where there is none
+  tied_first : {i : ℕ} → Smallest (Tied (edge_in L)) rows i → Some i ≡ found (tied (edge_in L)) rows
+  tied_first {i} (l, h) =
+      let tells = tied_tells (edge_in L) in
+      found_some (tied (edge_in L)) h (λ k g t. l.before k g ((tells k).0 t)) ((tells i).1 (l.here h))
+
+  none_first : Before (Tied (edge_in L)) rows → None ≡ found (tied (edge_in L)) rows
+  none_first none = found_none (tied (edge_in L)) (λ k g t. none k g ((tied_tells (edge_in L) k).0 t))
 
   -- the words allow an outcome: by the answer of the rules, and by the first tie
   repaired_exists : (r : Answer) × (left : List ℕ) × Repaired L r left
   repaired_exists =
       by_test (refuses (history_says L))
       (λ t. (history_says L, L.edges.numbers, ruled_out (gives_says L) t))
-      (λ f.
-      let o = (obeys_tells L).0 f in
-      by_lt (least (tied (edge_in L)) rows) rows
-      (λ h. (_, _, tie o (first_tied, h)))
-      (λ h. (_, _, mended o (least_none _ first_tied h) (obeys_mended o))))
+      (λ f. ruled ((obeys_tells L).0 f) (found (tied (edge_in L)) rows) first_tied)
+    where
+      ruled : Obeys L → (r : Option ℕ) → Finds (Tied (edge_in L)) rows r
+          → (r : Answer) × (left : List ℕ) × Repaired L r left
+      ruled o (Some i) smallest = (_, _, tie o smallest)
+      ruled o None none = (_, _, mended o none (obeys_mended o))
 
 -- what they allow is what is computed, and the other way round
 pub outcome_of : {L : Tables} {r : Answer} {left : List ℕ} → Repaired L r left → Outcome L r left
 outcome_of {L} (ruled_out g t) = on_refusal L (gives_is L g) t
-outcome_of {L} (tie o (l, h)) =
-    on_rows L refl ((obeys_tells L).1 o)
-    (on_tie L.edges.numbers (rows L) (least_unique (Tied (edge_in L)) l (first_tied L)) h)
+outcome_of {L} (tie o smallest) =
+    on_rows L refl ((obeys_tells L).1 o) (on_tie L.edges.numbers (rows L) (tied_first L smallest))
 outcome_of {L} (mended o none x) =
     on_rows L refl ((obeys_tells L).1 o)
-    (on_repaired L.edges.numbers (rows L) refl (none_first L none) (mended_unique L.edges x (obeys_mended L o)))
+    (on_repaired L.edges.numbers (rows L) (none_first L none) (mended_unique L.edges x (obeys_mended L o)))
 
 pub repaired_of : {L : Tables} {r : Answer} {left : List ℕ} → Outcome L r left → Repaired L r left
 repaired_of {L} x =

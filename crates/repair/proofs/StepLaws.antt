@@ -5,35 +5,18 @@ use mathlib.Core.List.{List}
 use Prim.Native.Nat.{ℕ, ◌+◌, ◌≤◌, ◌<◌}
 use native.Mathlib.Omega.{arith}
 use lib.Dec.{eqb}
-use lib.ListN.{length, set}
-use lib.Seq.{get_or-set_other}
 use borrow.Author.Tests.{eq-eqb, ne_eqb}
 use Rattle.ground.specs.Sums.{sum, bit}
-use Rattle.ground.proofs.ListLaws.{set_below}
 use Rattle.ground.proofs.SumLaws.{sum_more, sum_ext, count_le}
 use Rattle.tables.specs.declared.label.End.{End}
-use Rattle.tables.specs.declared.label.Label.{Label}
 use Rattle.tables.specs.Tables.{EdgeRow, edge_at, with_end}
-use Rattle.tables.specs.Labels.{instant_of, end_of, label_of}
+use Rattle.tables.specs.Labels.{instant_of, end_of}
 use Rattle.tables.specs.Rows.{HasEdges, set_end}
-use Rattle.tables.proofs.LabelLaws.{end_to, label_to}
+use Rattle.tables.proofs.LabelLaws.{end_to}
 use Rattle.repair.specs.Ends.{new_end_of, with_ends, repaired}
 use Rattle.repair.specs.Repaired.{changed}
-use Rattle.repair.specs.Steps.{Found, changes, EndsStored}
+use Rattle.repair.specs.Steps.{changes, EndsStored}
 use Rattle.repair.proofs.StoreLaws.{ends_more, ends_rest, ends_done, ends_same}
-
--- the finding loop at its beginning, and after a turn that stored at i
-pub found_none : (f : ℕ → ℕ) (xs : List ℕ) → Found f 0 xs xs
-found_none f xs = record { ends = λ i h. absurd (omega arith); rest = λ i h. refl }
-
-pub found_more : (f : ℕ → ℕ) (cur : List ℕ) (i : ℕ) {before : List ℕ} {v : ℕ} → i < length cur → Found f i before cur
-    → v ≡ f i
-    → Found f (i + 1) before (set cur i v)
-found_more f cur i {v = v} h x e =
-    record {
-      ends = set_below (λ k w. w ≡ f k) cur i v h x.ends e;
-      rest = λ k l. get_or-set_other cur i k v 0 (omega arith) ∙ x.rest k (omega arith);
-    }
 
 -- the writing loop at its beginning
 pub stored_none : (es : List ℕ) (f : ℕ → ℕ) → EndsStored es f 0 0 es
@@ -41,11 +24,11 @@ unfolding changes sum with_ends
 stored_none es f = record { number = refl; table = refl }
 
 -- and after a turn: the rows below i were written, row i was not, and it had another end, or had not
-module _ (es : List ℕ) (f : ℕ → ℕ) (i : ℕ) {cur left : List ℕ} {l : Label} {v : End} {a old : ℕ}
-    (x : EndsStored es f i old cur) (er : l ≡ label_of (edge_at cur i).from (edge_at cur i).to)
-    (ea : a ≡ instant_of l.end) (ev : v ≡ end_of (f i)) (el : left ≡ set_end cur i (instant_of v)) where
+module _ (es : List ℕ) (f : ℕ → ℕ) (i : ℕ) {cur left : List ℕ} {v : End} {a old : ℕ}
+    (x : EndsStored es f i old cur) (ea : a ≡ (edge_at cur i).to) (ev : v ≡ end_of (f i))
+    (el : left ≡ set_end cur i (instant_of v)) where
   had : a ≡ (edge_at es i).to
-  had = ea ∙ label_to _ _ _ er ∙ rw (x.table, ends_rest es f i i (omega arith))
+  had = ea ∙ rw (x.table, ends_rest es f i i (omega arith))
 
   more : left ≡ with_ends es f (i + 1)
   more = cc (ends_more es f i, x.table, end_to v (f i) ev)

@@ -15,19 +15,20 @@ use Rattle.repair.specs.Repaired.{SameStart, Tied}
 use Rattle.repair.specs.Ends.{same_start_of, tied}
 
 module _ (edge : ℕ → EdgeRow) where
-  same_start_tells : (i j : ℕ) → Tells (same_start_of edge i j) (SameStart edge i j)
+  same_start_tells : (i j : ℕ) → Tells (same_start_of (edge j) (edge i)) (SameStart edge i j)
   same_start_tells i j =
       tells_and (eqb (edge j).child (edge i).child) (eqb (edge j).from (edge i).from) (tells_eq _ _) (tells_eq _ _)
 
   pub tied_tells : (i : ℕ) → Tells (tied edge i) (Tied edge i)
   unfolding tied
-  tied_tells i = any_tells (same_start_of edge i) (SameStart edge i) (same_start_tells i) i
+  tied_tells i = any_tells (λ j. same_start_of (edge j) (edge i)) (SameStart edge i) (same_start_tells i) i
 
   -- the inner scan, where it found a smaller row, and where it looked at all
-  pub tied_found : (i j : ℕ) → j < i → same_start_of edge i j ≡ true → tied edge i ≡ true
+  pub tied_found : (i j : ℕ) → j < i → same_start_of (edge j) (edge i) ≡ true → tied edge i ≡ true
   tied_found i j h e = (tied_tells i).1 (j, h, (same_start_tells i j).0 e)
 
-  pub tied_missed : (i : ℕ) {j : ℕ} → i ≤ j → Before (Passes (same_start_of edge i)) j → tied edge i ≡ false
+  pub tied_missed : (i : ℕ) {j : ℕ} → i ≤ j → Before (Passes (λ k. same_start_of (edge k) (edge i))) j
+      → tied edge i ≡ false
   tied_missed i h b =
       tells_fails (tied edge i) (tied_tells i) (λ (k, l, s). b k (omega arith) ((same_start_tells i k).1 s))
 

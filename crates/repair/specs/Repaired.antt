@@ -2,8 +2,8 @@
 use Rattle.std.specs.Prelude.{◌≡◌, true, not, List, ℕ, ◌+◌, ◌≤◌, ◌<◌, eqb, length}
 use Rattle.ground.specs.Least.{Any, Before, Smallest}
 use Rattle.ground.specs.Sums.{count}
-use Rattle.answers.specs.declared.Answer.{Answer}
-use Rattle.answers.specs.declared.Answer.TheVariants.{Done, Tie}
+use Rattle.answers.specs.Answers.{Answer}
+use Rattle.answers.specs.Answers.{Done, Tie}
 use Rattle.answers.specs.Numbers.{refuses}
 use Rattle.tables.specs.Tables.{EdgeRow, edge_at, Table, Tables, edge_in, with_end}
 use Rattle.tables.specs.Rules.{Obeys, Gives}

@@ -6,8 +6,8 @@
 --   Settled, Outcome           an answer and a table afterwards that are these
 -- Assumes nothing.
 use Rattle.std.specs.Prelude.{◌≡◌, cond, List, ℕ}
-use Rattle.answers.specs.declared.Answer.{Answer}
-use Rattle.answers.specs.declared.Answer.TheVariants.{Done, Tie}
+use Rattle.answers.specs.Answers.{Answer}
+use Rattle.answers.specs.Answers.{Done, Tie}
 use Rattle.answers.specs.Numbers.{refuses}
 use Rattle.answers.specs.Refusals.{◌⨾◌}
 use Rattle.tables.specs.Tables.{edge_at, Tables}

@@ -1,40 +1,31 @@
 // Two rows into one child that start together.
-ghost use Rattle.std.specs.Prelude.{◌≡◌, ◌+◌};
-ghost use Rattle.ground.specs.Searches.{least};
+ghost use Rattle.std.specs.Prelude.{◌≡◌};
+ghost use Rattle.ground.specs.Searches.{found};
 ghost use Rattle.tables.specs.Tables.{edge_at};
-ghost use Rattle.tables.specs.Rows.{HasEdges};
 ghost use Rattle.repair.specs.Ends.{same_start_of, tied};
 
-use tables::rows::{edge_child, edge_label};
+use tables::rows::{EdgeRow, Rows};
 
-fn same_start(edges: &[u32], i: usize, j: usize) -> bool
-    requires { HasEdges edges.now (i + 1) × HasEdges edges.now (j + 1) }
-    ensures { result ≡ same_start_of (edge_at edges.now) i j }
+fn same_start(a: EdgeRow, b: EdgeRow) -> bool
+    ensures { result ≡ same_start_of a b }
 {
-    let one_child = edge_child(edges, j) == edge_child(edges, i);
-    let a = edge_label(edges, j);
-    let b = edge_label(edges, i);
-    one_child & (a.from == b.from)
+    (a.child == b.child) & (a.from == b.from)
 }
 
-// The smallest of m rows that shares its child and its start with a smaller row, or m: a scan over pairs of rows, left
-// at the first tie. There are m * (m - 1) / 2 pairs.
-pub fn first_tie(edges: &[u32], m: usize) -> usize
-    requires { HasEdges edges.now m }
-    ensures { result ≡ least (tied (edge_at edges.now)) m }
+// The smallest row that shares its child and its start with a smaller row: a scan over pairs of rows, left by a
+// label at the first tie, the form that document 01 names. Of m rows there are m * (m - 1) / 2 pairs.
+pub fn first_tie(rows: &Rows<'_, EdgeRow>) -> Option<usize>
+    ensures { result ≡ found (tied (edge_at rows.now.numbers)) rows.now.count }
 {
-    let mut first = m;
-    let mut i = 0;
-    'rows: while i < m {
-        let mut j = 0;
-        while j < i {
-            if same_start(edges, i, j) {
-                first = i;
+    let mut first = None;
+    'rows: for i in 0..rows.len() {
+        let row = rows.row(i);
+        for j in 0..i {
+            if same_start(rows.row(j), row) {
+                first = Some(i);
                 break 'rows;
             }
-            j += 1;
         }
-        i += 1;
     }
     first
 }

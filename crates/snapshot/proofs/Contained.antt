@@ -11,8 +11,8 @@ use Prim.Native.Nat.{ℕ, ◌+◌}
 use lib.ListN.{length}
 use Rattle.ground.specs.Lists.{front}
 use Rattle.ground.specs.Sums.{count}
-use Rattle.answers.specs.declared.Answer.{Answer}
-use Rattle.answers.specs.declared.Answer.TheVariants.{Done}
+use Rattle.answers.specs.Answers.{Answer}
+use Rattle.answers.specs.Answers.{Done}
 use Rattle.answers.specs.Numbers.{refuses}
 use Rattle.tables.specs.Tables.{Tables}
 use Rattle.history.specs.Faults.{History, held}

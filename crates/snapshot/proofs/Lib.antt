@@ -7,7 +7,7 @@ pub mod ChildLaws
 pub mod ShownLaws
 pub mod ExactLaws
 pub mod RowLaws
-pub mod ReadyLaws
 pub mod ShowLaws
+pub mod ReadyLaws
 pub mod SnapshotLaws
 pub mod Contained

@@ -7,14 +7,14 @@ use mathlib.Core.List.{List, [], ◌∷◌, ◌++◌, append_assoc, append-nil}
 use Prim.Native.Nat.{ℕ, zero, suc, ◌+◌, ◌-◌, ◌≤◌, ◌<◌}
 use native.Mathlib.Decide.{ℕ_discrete}
 use native.Mathlib.Omega.{arith}
-use lib.Dec.{ltb}
+use lib.Dec.{ltb, eqb}
 use lib.ListN.{length, get_or, set, length-set}
 use lib.Seq.{get_or-set_same, get_or-set_other}
 use borrow.Author.Tests.{lt-ltb, le-ltb, ltb-true, ltb-false, eq-eqb, ne_eqb}
 use Rattle.ground.proofs.TestLaws.{by_test}
 use Rattle.tables.specs.Tables.{no_node}
 use Rattle.snapshot.specs.Says.{below}
-use Rattle.snapshot.specs.Lists.{Blank, Links, link_to, link_from, run, kids_of, Runs, kids_by}
+use Rattle.snapshot.specs.Lists.{Blank, Links, link_to, link_from, run, kids_of, Runs}
 
 pub run_stop : (next : List ℕ) (count most c : ℕ) → count ≤ c → run next count most c ≡ []
 unfolding run
@@ -62,21 +62,17 @@ module _ (count : ℕ) (next : List ℕ) (rising : (i : ℕ) → i < count → i
       (λ e. rw e)
 
 -- one turn: the node before c is linked, or its parent is no node
-pub link_yes : (parents : List ℕ) (count c p : ℕ) (l : Links) → 0 < c → p ≡ get_or parents (c - 1) 0 → p < count
-    → link_from parents count c l ≡ link_from parents count (c - 1) (link_to p (c - 1) l)
+pub link_turn : (parents : List ℕ) (count c : ℕ) (l : Links) → 0 < c
+    → link_from parents count c l
+    ≡ link_from parents count (c - 1)
+    (cond (ltb (get_or parents (c - 1) 0) count) (link_to (get_or parents (c - 1) 0) (c - 1) l) l)
 unfolding link_from
-link_yes parents count zero p l z e h = absurd (omega arith)
-link_yes parents count (suc c) p l z e h =
-    let q : suc c - 1 ≡ c = omega arith in
-    rw (q, e, q, lt-ltb (get_or parents c 0) count (rw (e, q) at h))
+link_turn parents count zero l h = absurd (omega arith)
+link_turn parents count (suc c) l h = let q : suc c - 1 ≡ c = omega arith in rw q refl
 
-pub link_no : (parents : List ℕ) (count c : ℕ) (l : Links) → 0 < c → count ≤ get_or parents (c - 1) 0
-    → link_from parents count c l ≡ link_from parents count (c - 1) l
-unfolding link_from
-link_no parents count zero l z h = absurd (omega arith)
-link_no parents count (suc c) l z h =
-    let q : suc c - 1 ≡ c = omega arith in
-    rw (q, le-ltb (get_or parents c 0) count (rw q at h))
+-- the children of n before node c, by a list of parents
+abbrev kids_to : List ℕ → ℕ → ℕ → List ℕ
+kids_to parents c n = below (λ i. eqb (get_or parents i 0) n) c
 
 -- the nodes from c on are linked
 record Linking (parents : List ℕ) (l : Links) (count c : ℕ) : Type 0 where
@@ -86,7 +82,7 @@ record Linking (parents : List ℕ) (l : Links) (count c : ℕ) : Type 0 where
   rising : (i : ℕ) → i < count → i < get_or l.next i 0
   heads : (n : ℕ) → n < count → c ≤ get_or l.first n 0
   shows : (n : ℕ) → n < count
-      → kids_by parents count n ≡ kids_by parents c n ++ kids_of l.first l.next count n
+      → kids_to parents count n ≡ kids_to parents c n ++ kids_of l.first l.next count n
 
 module _ (parents : List ℕ) (count : ℕ) where
   link_start : (l : Links) → count < no_node → count ≤ length l.first → count ≤ length l.next → Blank l.first
@@ -150,8 +146,8 @@ module _ (parents : List ℕ) (count : ℕ) where
 
       abbrev Shows : ℕ → Type 0
       Shows n =
-          kids_by parents (suc c) n ++ kids_of l.first l.next count n
-          ≡ kids_by parents c n ++ kids_of first' next' count n
+          kids_to parents (suc c) n ++ kids_of l.first l.next count n
+          ≡ kids_to parents c n ++ kids_of first' next' count n
 
       -- the children of p, of which c is one, and those of another node
       shows_parent : Shows p
@@ -210,6 +206,6 @@ module _ (parents : List ℕ) (count : ℕ) where
           record { firsts = linked.firsts; nexts = linked.nexts; goes = run_step count r.next linked.rising }
 
       pub link_shows : (x : ℕ) → x < count
-          → kids_of r.first r.next count x ≡ kids_by parents count x
+          → kids_of r.first r.next count x ≡ kids_to parents count x
       unfolding below
       link_shows x h = sym (linked.shows x h)

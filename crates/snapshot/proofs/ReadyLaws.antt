@@ -6,22 +6,25 @@ use mathlib.Core.List.{List}
 use Prim.Native.Nat.{ℕ, ◌+◌, ◌≤◌, ◌<◌}
 use native.Mathlib.Omega.{arith}
 use lib.Dec.{ltb}
-use lib.ListN.{length, get_or}
+use lib.ListN.{length, take}
+use Rattle.std.specs.List.{count_by}
 use borrow.Author.Tests.{lt-ltb, le-ltb}
-use Rattle.ground.specs.Sums.{count}
 use Rattle.ground.proofs.TestLaws.{by_test, by_lt}
-use Rattle.ground.proofs.SumLaws.{count_le}
+use Rattle.std.specs.Prelude.{Ok, Err}
 use Rattle.answers.specs.declared.Fault.{Fault}
+use Rattle.answers.specs.declared.Outcome.{Outcome}
+use Rattle.answers.specs.declared.Refusal.{Refusal}
 use Rattle.answers.specs.declared.Kind.TheVariants as kind
-use Rattle.answers.specs.declared.Answer.{Answer}
-use Rattle.answers.specs.declared.Answer.TheVariants.{Early}
+use Rattle.answers.specs.Answers.{Answer}
+use Rattle.answers.specs.Answers.{Early}
 use Rattle.answers.specs.Numbers.{refuses, passed}
 use Rattle.answers.specs.Refusals.{fault}
-use Rattle.answers.proofs.AnswerLaws.{faulty_refuses}
-use Rattle.tables.specs.Tables.{Tables}
-use Rattle.tables.specs.Rules.{most_nodes, Obeys, Gives}
+use Rattle.tables.specs.Tables.{no_node, Tables}
+use Rattle.tables.specs.Rules.{Obeys}
 use Rattle.tables.specs.Says.{history_says}
 use Rattle.tables.proofs.GivesLaws.{gives_is, gives_says, obeys_tells}
+use Rattle.history.specs.declared.ruled.History.{History as Held}
+use Rattle.history.specs.Taken.{held_in, Taken}
 use Rattle.history.specs.Faults.{History, held, GapAside}
 use Rattle.history.specs.Sound.{OneReference}
 use Rattle.history.specs.Ruled.{Ruled}
@@ -32,11 +35,13 @@ use Rattle.history.proofs.RuledLaws.{obeys_ruled}
 use Rattle.history.proofs.SoundLaws.{undoubled_one}
 use Rattle.history.proofs.Tree.{Tree}
 use Rattle.history.proofs.VerdictLaws.{names_unique}
-use Rattle.faults.specs.Judged.{Shows}
+use Rattle.faults.specs.Judged.{Seen, Exact, Shows}
 use Rattle.snapshot.specs.Snapshot.{Ready, Unready, ruled_out, early, faulty}
-use Rattle.snapshot.specs.Says.{shown_rows, instant_says, ready_says}
-use Rattle.snapshot.specs.Readied.{Readiness, refused, is_ready, Readied}
-use Rattle.snapshot.specs.Lists.{rows_by}
+use Rattle.snapshot.specs.Says.{referent_at, shown_rows, instant_says, ready_says}
+use Rattle.snapshot.specs.Readied.{Readiness, refused, is_ready, Showing}
+use Rattle.snapshot.specs.Walk.{subtree}
+use Rattle.snapshot.specs.Lists.{kids_by, rows_by}
+use Rattle.faults.proofs.JudgeLaws.{exactly}
 use Rattle.snapshot.proofs.RowLaws.{counted, walked}
 
 -- what is computed at an instant: before the start, and where a fault is named or none
@@ -103,8 +108,8 @@ module _ (L : Tables) (t : ℕ) where
   readiness_is (is_ready r) = sym (says_ready r)
 
   -- the answers: where a rule is broken, before the start, and what the judge names
-  pub rules_readiness : {a : Answer} → a ≡ history_says L → refuses a ≡ true → Is a
-  rules_readiness q e = refused (ruled_out (subst (Gives L) (sym q) (gives_says L)) e)
+  ruled_out_says : refuses (history_says L) ≡ true → Unready L t (history_says L)
+  ruled_out_says e = ruled_out (gives_says L) e
 
   shown_readiness : Obeys L → L.start ≤ t → {a : Answer} → Names (GapAside H t) t a → Is a
   shown_readiness o b (none n) = is_ready (record { obeys = o; begun = b; none = n })
@@ -113,7 +118,7 @@ module _ (L : Tables) (t : ℕ) where
   pub readiness_exists : (a : Answer) × Is a
   readiness_exists =
       by_test (refuses (history_says L))
-      (λ e. (history_says L, rules_readiness refl e))
+      (λ e. (history_says L, refused (ruled_out_says e)))
       (λ e.
       let o = (obeys_tells L).0 e in
       by_lt t L.start
@@ -123,7 +128,7 @@ module _ (L : Tables) (t : ℕ) where
   pub unready_refuses : {a : Answer} → Unready L t a → refuses a ≡ true
   unready_refuses (ruled_out g e) = e
   unready_refuses (early o h) = refl
-  unready_refuses (faulty {f = f} o b x) = faulty_refuses t f
+  unready_refuses (faulty {f = f} o b x) = refl
 
   readiness_ready : {a : Answer} → Is a → refuses a ≡ false → Known
   readiness_ready (refused u) e = absurd (false≢true (sym e ∙ unready_refuses u))
@@ -132,34 +137,52 @@ module _ (L : Tables) (t : ℕ) where
   pub ready_tells : {a : Answer} → Is a → (refuses a ≡ false) ↔ Known
   ready_tells x = (readiness_ready x, λ r. ap refuses (readiness_is x ∙ says_ready r))
 
-  pub readiness_unready : {a : Answer} → Is a → refuses a ≡ true → Unready L t a
+  readiness_unready : {a : Answer} → Is a → refuses a ≡ true → Unready L t a
   readiness_unready (refused u) e = u
   readiness_unready (is_ready r) e = absurd (false≢true e)
 
-  -- a refusal says nothing of the slots
-  pub readied_refused : {r : Answer} {up : List ℕ} → Is r → refuses r ≡ true → Readied L t r up
-  readied_refused x e = record { answer = x; seen = λ f. absurd (false≢true (sym f ∙ e)) }
+  -- what the code has in hand where it answers so: the rules refuse
+  pub rules_refuse : {e : Refusal} → history_says L ≡ Err e → Unready L t (Err e)
+  rules_refuse q = subst (Unready L t) q (ruled_out_says (ap refuses q))
 
-  pub readied_shown : Obeys L → L.start ≤ t → {r : Answer} {up : List ℕ} → H.nodes ≤ length up → Shows H t up r
-      → Readied L t r up
-  readied_shown o b h x =
-      let ruled = obeys_ruled L o in
-      let named = subst (Names (GapAside H t) t) (sym x.answer) (shown_named H t ruled) in
-      record {
-        answer = shown_readiness o b named;
-        seen = λ f. record { ruled = ruled; long = h; slots = x.slots };
-      }
+  -- they do not, and the tables are a history: the instant is before its start, the judge refuses, or neither
+  module _ (h : Held) (o : Taken L (Ok h)) where
+    pub too_early : t < h.start → Unready L t (Early t)
+    too_early l = early o.0 (omega (arith, ap (λ H. H.start) o.1))
 
-  -- where nothing is refused, the slots count the rows and show them
-  module _ {r : Answer} {up : List ℕ} (x : Readied L t r up) (f : refuses r ≡ false) where
-    known : Known
-    known = readiness_ready x.answer f
+    module _ (b : h.start ≤ t) (up : List ℕ) where
+      judged : (a : Answer) → Shows (held_in h) t up a → Is a
+      judged a x =
+          let begun : L.start ≤ t = omega (arith, ap (λ H. H.start) o.1) in
+          let says : a ≡ shown_say H t = x.answer ∙ ap (λ H. shown_say H t) o.1 in
+          shown_readiness o.0 begun (subst (Names (GapAside H t) t) (sym says) (shown_named H t (obeys_ruled L o.0)))
 
-    pub ready_counted : 1 + count (λ c. ltb (get_or up c 0) H.nodes) H.nodes ≡ length (shown_rows H t)
-    ready_counted = counted H t (ready_tree known) (x.seen f) known.begun (ready_single known)
+      pub judge_refuses : {e : Refusal} → Shows (held_in h) t up (Err e) → Unready L t (Err e)
+      judge_refuses x = readiness_unready (judged _ x) refl
 
-    pub ready_rows : rows_by up H.nodes L.refs.numbers L.refs.count t ≡ shown_rows H t
-    ready_rows = walked H t (ready_tree known) (x.seen f)
+      pub judge_shows : {done : Outcome} → h.nodes ≤ length up → Shows (held_in h) t up (Ok done) → Showing L t h up
+      judge_shows l x =
+          let seen : Seen (held_in h) t up = record { ruled = h.ruled; long = l; slots = x.slots } in
+          record { ready = (ready_tells (judged _ x)).0 refl; holds = o.1; seen = rw o.1 at seen }
 
-    pub ready_few : {k : ℕ} → k ≡ 1 + count (λ c. ltb (get_or up c 0) H.nodes) H.nodes → k ≤ most_nodes + 1
-    ready_few e = omega (arith, count_le (λ c. ltb (get_or up c 0) H.nodes) H.nodes, (x.seen f).ruled.few_nodes)
+  -- the slots of the nodes count the rows and show them
+  module _ {h : Held} {up : List ℕ} (x : Showing L t h up) where
+    abbrev parents : List ℕ
+    parents = take h.nodes up
+
+    nodes : h.nodes ≡ H.nodes
+    nodes = ap (λ H. H.nodes) x.holds
+
+    exact : Exact H t parents
+    exact = rw nodes (exactly up x.seen.ruled x.seen.long x.seen.slots)
+
+    pub ready_counted : 1 + count_by (λ p. ltb p (length parents)) parents ≡ length (shown_rows H t)
+    ready_counted = counted H t (ready_tree x.ready) exact x.ready.begun (ready_single x.ready)
+
+    pub ready_rows : rows_by parents h.refs t ≡ shown_rows H t
+    ready_rows =
+        ap (λ H. subtree (referent_at H.refs H.ref t) (kids_by parents) (length parents) no_node 0) x.holds
+        ∙ walked H t (ready_tree x.ready) exact
+
+    pub ready_long : length parents ≡ h.nodes
+    ready_long = exact.same ∙ sym nodes

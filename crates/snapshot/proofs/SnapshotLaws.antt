@@ -1,31 +1,31 @@
 -- The computed outcome is the one that the words allow; and what the call gives where it refuses, where the output is
 -- too short, and where it is not. Assumes nothing.
 use mathlib.Core.Path.{◌≡◌, refl, sym, ap, ◌∙◌}
-use mathlib.Core.Bool.{true, false}
+use mathlib.Core.Bool.{true}
 use mathlib.Core.List.{List}
 use Prim.Native.Nat.{ℕ, ◌+◌, ◌*◌, ◌≤◌, ◌<◌}
 use native.Mathlib.Omega.{arith}
 use lib.Dec.{ltb}
-use lib.ListN.{length, get_or}
+use lib.ListN.{length, take}
+use Rattle.std.specs.List.{count_by}
 use borrow.Author.Tests.{lt-ltb, le-ltb}
 use Rattle.ground.specs.Lists.{front}
-use Rattle.ground.specs.Sums.{count}
 use Rattle.ground.proofs.TestLaws.{by_lt}
-use Rattle.answers.specs.declared.Answer.{Answer}
-use Rattle.answers.specs.declared.Answer.TheVariants.{Done, Room}
+use Rattle.answers.specs.Answers.{Answer}
+use Rattle.answers.specs.Answers.{Done, Room}
 use Rattle.answers.specs.Numbers.{refuses}
 use Rattle.tables.specs.Tables.{Tables}
+use Rattle.history.specs.declared.ruled.History.{History as Taken}
 use Rattle.history.specs.Faults.{History, held}
-use Rattle.history.proofs.RuledLaws.{obeys_lent}
-use Rattle.faults.proofs.JudgeLaws.{lent_referring}
-use Rattle.snapshot.specs.Snapshot.{ShownRow, shown_width, shown_numbers, ShownRows, Ready, Snapshot, unready}
+use Rattle.faults.proofs.JudgeLaws.{ruled_referring}
+use Rattle.snapshot.specs.Snapshot.{ShownRow, shown_width, shown_numbers, ShownRows, Ready, Unready, Snapshot, unready}
 use Rattle.snapshot.specs.Snapshot.{short, shows}
 use Rattle.snapshot.specs.Says.{shown_rows, rows_of, ready_says, room_says, snapshot_says, written}
-use Rattle.snapshot.specs.Readied.{Readiness, refused, is_ready, Readied}
+use Rattle.snapshot.specs.Readied.{Readiness, refused, is_ready, Showing}
 use Rattle.snapshot.specs.Lists.{rows_by, Showable}
 use Rattle.snapshot.proofs.ShownLaws.{subtree_unique, rows_shown}
 use Rattle.snapshot.proofs.ReadyLaws.{ready_ruled, ready_tree, readiness_is, readiness_exists, unready_refuses}
-use Rattle.snapshot.proofs.ReadyLaws.{readiness_unready, ready_tells, ready_counted, ready_rows}
+use Rattle.snapshot.proofs.ReadyLaws.{ready_counted, ready_rows, ready_long}
 
 room_short : (t k room : ℕ) → room < k * shown_width → room_says t k room ≡ Room t k
 unfolding room_says
@@ -95,37 +95,32 @@ module _ (L : Tables) (t : ℕ) where
         let (e, o) = snapshot_is x in
         rw (← e, ← o) x
 
-    -- the call's promise, by what the code has in hand where it answers so
-    pub on_unready : {r : Answer} → Readiness L t r → refuses r ≡ true → Gives r before
-    on_unready x e = unready (readiness_unready L t x e)
+    -- the call's promise, by what the code has in hand where it answers so: a refusal
+    pub on_unready : {a : Answer} → Unready L t a → Gives a before
+    on_unready = unready
 
-    -- nothing is refused, and the parents are counted
-    module _ {r : Answer} {up : List ℕ} (x : Readied L t r up) (f : refuses r ≡ false) {k : ℕ}
-        (ek : k ≡ 1 + count (λ c. ltb (get_or up c 0) H.nodes) H.nodes) where
-      known : Ready L t
-      known = (ready_tells L t x.answer).0 f
-
+    -- the history can be shown, and its rows are counted by the parents
+    module _ {h : Taken} {up : List ℕ} (x : Showing L t h up) {k : ℕ}
+        (counted : k ≡ 1 + count_by (λ p. ltb p (length (take h.nodes up))) (take h.nodes up)) where
       needed : k ≡ length (shown_rows H t)
-      needed = ek ∙ ready_counted L t x f
+      needed = counted ∙ ready_counted L t x
 
       pub on_short : length before < k * shown_width → Gives (Room t k) before
-      on_short h = rw needed (short known (ready_shown known) (rw needed at h))
+      on_short l = rw needed (short x.ready (ready_shown x.ready) (rw needed at l))
 
       module _ (fits : k * shown_width ≤ length before) where
-        pub rows_showable : Showable up H.nodes L.refs.numbers L.refs.count t before
+        pub rows_showable : Showable (take h.nodes up) h.refs t before
         rows_showable =
-            let s = x.seen f in
+            let long = ready_long L t x in
             record {
-              some = s.ruled.root;
-              few = s.ruled.few_nodes;
-              listed = s.long;
-              refers = lent_referring (obeys_lent L known.obeys);
-              room = omega (arith, needed, ap length (ready_rows L t x f));
+              some = omega (arith, h.ruled.root);
+              few = omega (arith, h.ruled.few_nodes);
+              refers = rw long (ruled_referring h.ruled);
+              room = omega (arith, needed, ap length (ready_rows L t x));
             }
 
-        pub on_rows : {after : List ℕ}
-            → after ≡ front (shown_numbers (rows_by up H.nodes L.refs.numbers L.refs.count t)) before
+        pub on_rows : {after : List ℕ} → after ≡ front (shown_numbers (rows_by (take h.nodes up) h.refs t)) before
             → Gives (Done t k) after
         on_rows o =
-            let shown = ap (λ xs. front (shown_numbers xs) before) (ready_rows L t x f) in
-            rw (needed, o ∙ shown) (shows known (ready_shown known) (rw needed at fits))
+            let shown = ap (λ xs. front (shown_numbers xs) before) (ready_rows L t x) in
+            rw (needed, o ∙ shown) (shows x.ready (ready_shown x.ready) (rw needed at fits))

@@ -1,8 +1,8 @@
 -- Laws of the number of the smallest row that passes, and of the lists that hold it for each node. Assumes nothing.
-use mathlib.Core.Path.{◌≡◌, refl, sym, ap, ap₂, ◌∙◌}
+use mathlib.Core.Path.{◌≡◌, refl, sym, ap, ◌∙◌}
 use mathlib.Core.Logic.Iff
 use mathlib.Core.Logic.{◌≢◌, ◌⊎◌, inl, inr, ⊎_elim}
-use mathlib.Core.Bool.{Bool, true, false, ◌&&◌, and-false}
+use mathlib.Core.Bool.{Bool, true, false, and-false}
 use mathlib.Core.List.{List}
 use Prim.Native.Nat.{ℕ, ◌+◌, ◌<◌}
 use native.Mathlib.Decide.{ℕ_discrete, dec_lt}
@@ -15,8 +15,10 @@ use Rattle.ground.specs.Least.{Before, Least}
 use Rattle.ground.specs.Searches.{Passes, least}
 use Rattle.ground.proofs.TestLaws.{by_test}
 use Rattle.ground.proofs.LeastLaws.{least_none, least_tells, search_none, search_more, search_found, search_missed}
-use Rattle.tables.specs.Tables.{no_node}
-use Rattle.snapshot.specs.Says.{value_at}
+use Rattle.tables.specs.Tables.{no_node, RefRow}
+use Rattle.tables.specs.Labels.{during}
+use Rattle.history.specs.Computed.{refers_from}
+use Rattle.snapshot.specs.Says.{value_at, referent_at}
 use Rattle.snapshot.specs.Lists.{Lists, Blank, put_first_of}
 
 module _ (p : ℕ → Bool) (v : ℕ → ℕ) where
@@ -60,13 +62,22 @@ put_length : (l : List ℕ) (a v : ℕ) → length (put_first_of l a v) ≡ leng
 unfolding put_first_of
 put_length l a v = by_test (eqb (get_or l a 0) no_node) (λ e. rw (e, length-set)) (λ e. rw e)
 
--- a list of numbers by their rows' places: before the first row, after a row that is not in force, after one that is
-module _ (force : ℕ → Bool) (place value : ℕ → ℕ) where
+-- a list of referents by reference rows: before the first row, after a row that is not in force, after one that is
+module _ (row : ℕ → RefRow) (t : ℕ) where
   abbrev passes : ℕ → ℕ → Bool
-  passes n i = eqb (place i) n && force i
+  passes = refers_from row t
+
+  abbrev place : ℕ → ℕ
+  place i = (row i).attribute
+
+  abbrev value : ℕ → ℕ
+  value i = (row i).target
+
+  abbrev force : ℕ → Bool
+  force i = during (row i).from (row i).to t
 
   abbrev Listed : ℕ → List ℕ → Type 0
-  Listed i = Lists (λ n. value_at (passes n) value i)
+  Listed i = Lists (referent_at i row t)
 
   pub list_start : (l : List ℕ) → Blank l → Listed 0 l
   list_start l b n h = b n h ∙ sym (value_none (passes n) value (search_none (passes n)))
@@ -76,9 +87,10 @@ module _ (force : ℕ → Bool) (place value : ℕ → ℕ) where
       ap (λ r. get_or r n 0) q ∙ a n (omega (arith, ap length q))
       ∙ sym (value_skip (passes n) value i (rw f (and-false (eqb (place i) n))))
 
-  module _ (i : ℕ) (l : List ℕ) (f : force i ≡ true) (known : (j : ℕ) → j < i → value j < no_node) (a : Listed i l) where
+  module _ (i : ℕ) (l : List ℕ) (f : force i ≡ true) (known : (j : ℕ) → j < i → value j < no_node)
+      (a : Listed i l) where
     put_here : place i < length l
-        → get_or (put_first_of l (place i) (value i)) (place i) 0 ≡ value_at (passes (place i)) value (i + 1)
+        → get_or (put_first_of l (place i) (value i)) (place i) 0 ≡ referent_at (i + 1) row t (place i)
     put_here h =
         ⊎_elim
         (λ (j, g, b, e).
@@ -93,17 +105,15 @@ module _ (force : ℕ → Bool) (place value : ℕ → ℕ) where
         (value_cases (passes (place i)) value i)
 
     put_at : place i < length l → (n : ℕ) → n < length l
-        → get_or (put_first_of l (place i) (value i)) n 0 ≡ value_at (passes n) value (i + 1)
+        → get_or (put_first_of l (place i) (value i)) n 0 ≡ referent_at (i + 1) row t n
     put_at h n g = go (ℕ_discrete n (place i))
       where
-        go : Dec (n ≡ place i) → get_or (put_first_of l (place i) (value i)) n 0 ≡ value_at (passes n) value (i + 1)
+        go : Dec (n ≡ place i) → get_or (put_first_of l (place i) (value i)) n 0 ≡ referent_at (i + 1) row t n
         go (yes e) = rw e (put_here h)
         go (no d) =
             put_other l (place i) (value i) n d ∙ a n g
             ∙ sym (value_skip (passes n) value i (rw (ne_eqb (place i) n (λ x. d (sym x)))))
 
-    pub list_put : (l' : List ℕ) (b v : ℕ) → l' ≡ put_first_of l b v → b ≡ place i → v ≡ value i → b < length l
-        → (length l' ≡ length l) × Listed (i + 1) l'
-    list_put l' b v q eb ev h =
-        let k : length l' ≡ length l = ap length q ∙ put_length l b v in
-        (k, λ n g. ap (λ r. get_or r n 0) (q ∙ ap₂ (put_first_of l) eb ev) ∙ put_at (rw eb at h) n (omega arith))
+    pub list_put : (l' : List ℕ) → l' ≡ put_first_of l (place i) (value i) → place i < length l → Listed (i + 1) l'
+    list_put l' q h n g =
+        ap (λ r. get_or r n 0) q ∙ put_at h n (omega (arith, ap length q, put_length l (place i) (value i)))

@@ -1,13 +1,18 @@
 -- What the function that asks for readiness answers and leaves, for whatever is shown or counted of an instant.
--- proofs/ReadyLaws.antt: `ready_says` is the one answer that Readiness allows, and it refuses exactly what is not Ready.
+-- proofs/ReadyLaws.antt: `ready_says` is the one answer that Readiness allows, and refuses exactly what is not Ready.
 --   Readiness   a refusal of what is not ready, or that nothing is refused
---   Readied     the answer, and where nothing is refused the parents of the instant, a slot for each node
+--   Showing     the tables are ready, h is the history that they hold, and up has the parents of the instant, a slot
+--               for each node
+--   Readied     a history that can be shown, or the refusal
 -- Assumes nothing.
-use Rattle.std.specs.Prelude.{◌≡◌, false, List, ℕ}
-use Rattle.answers.specs.declared.Answer.{Answer}
-use Rattle.answers.specs.Numbers.{refuses, passed}
+use Rattle.std.specs.Prelude.{◌≡◌, List, ℕ, Result, Ok, Err}
+use Rattle.answers.specs.declared.Refusal.{Refusal}
+use Rattle.answers.specs.Answers.{Answer}
+use Rattle.answers.specs.Numbers.{passed}
 use Rattle.tables.specs.Tables.{Tables}
+use Rattle.history.specs.declared.ruled.History.{History}
 use Rattle.history.specs.Faults.{held}
+use Rattle.history.specs.Taken.{held_in}
 use Rattle.faults.specs.Judged.{Seen}
 use Rattle.snapshot.specs.Snapshot.{Ready, Unready}
 
@@ -16,6 +21,11 @@ module _ (L : Tables) (t : ℕ) where
     refused : {a : Answer} → Unready L t a → Readiness a
     is_ready : Ready L t → Readiness passed
 
-  pub record Readied (r : Answer) (up : List ℕ) : Type 0 where
-    pub answer : Readiness r
-    pub seen : refuses r ≡ false → Seen (held L) t up
+  pub record Showing (h : History) (up : List ℕ) : Type 0 where
+    pub ready : Ready L t
+    pub holds : held_in h ≡ held L
+    pub seen : Seen (held L) t up
+
+  abbrev pub Readied : Result History Refusal → List ℕ → Type 0
+  Readied (Ok h) up = Showing h up
+  Readied (Err e) up = Unready L t (Err e)

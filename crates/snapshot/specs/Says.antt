@@ -12,8 +12,8 @@
 use Rattle.std.specs.Prelude.{Bool, cond, ◌&&◌, List, [], ◌∷◌, ◌++◌, ℕ, zero, suc, ◌*◌, ltb, eqb, length}
 use Rattle.ground.specs.Searches.{any, least}
 use Rattle.ground.specs.Lists.{front}
-use Rattle.answers.specs.declared.Answer.{Answer}
-use Rattle.answers.specs.declared.Answer.TheVariants.{Done, Room, Early}
+use Rattle.answers.specs.Answers.{Answer}
+use Rattle.answers.specs.Answers.{Done, Room, Early}
 use Rattle.answers.specs.Numbers.{refuses}
 use Rattle.answers.specs.Refusals.{when, ◌⨾◌}
 use Rattle.tables.specs.Tables.{RefRow, no_node, Tables}

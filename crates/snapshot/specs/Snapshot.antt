@@ -3,8 +3,8 @@ use Rattle.std.specs.Prelude.{◌≡◌, true, List, [], ◌∷◌, ◌++◌, �
 use Rattle.ground.specs.Least.{Before, Smallest}
 use Rattle.ground.specs.Lists.{front}
 use Rattle.answers.specs.declared.Fault.{Fault}
-use Rattle.answers.specs.declared.Answer.{Answer}
-use Rattle.answers.specs.declared.Answer.TheVariants.{Done, Faulty, Room, Early}
+use Rattle.answers.specs.Answers.{Answer}
+use Rattle.answers.specs.Answers.{Done, Faulty, Room, Early}
 use Rattle.answers.specs.Numbers.{refuses}
 use Rattle.tables.specs.Tables.{no_node, Tables}
 use Rattle.tables.specs.Rules.{Obeys, Gives}

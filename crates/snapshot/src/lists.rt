@@ -1,67 +1,58 @@
 // The lists that the walk goes by: the referent, the first child and the next sibling of each node.
-ghost use Rattle.std.specs.Prelude.{◌≡◌, ◌+◌, ◌<◌, ◌≤◌, ltb, length, get_or};
-ghost use Rattle.ground.specs.Sums.{count};
+ghost use Rattle.std.specs.Prelude.{◌≡◌, ◌+◌, ◌<◌, ◌≤◌, ltb, length};
+ghost use Rattle.std.specs.List.{count_by};
 ghost use Rattle.tables.specs.Tables.{no_node, ref_at};
 ghost use Rattle.snapshot.specs.Says.{referent_at};
-ghost use Rattle.snapshot.specs.Lists.{Lists, Listable, put_first_of, links, link_from};
+ghost use Rattle.snapshot.specs.Lists.{Lists, Listable, put_first_of, links, link_all};
 
-use tables::rows::{NO_NODE, Side, ref_in_force, ref_side};
+use tables::joins::Join;
+use tables::rows::{NO_NODE, RefRow, Rows};
 
-// Stores v at a, unless a number of a node stands there.
-pub fn put_first(l: &mut [u32], a: usize, v: u32)
-    requires { a < length l.old }
-    ensures { l.new ≡ put_first_of l.old a v }
+// Stores a value at a place, unless a number of a node stands there.
+#[tactic(auto, unfolding(crate::specs::Lists::put_first_of))]
+pub fn put_first(list: &mut [u32], place: usize, value: u32)
+    requires { place < length list.old }
+    ensures { list.new ≡ put_first_of list.old place value }
 {
-    if l[a] == NO_NODE {
-        l[a] = v;
+    if list[place] == NO_NODE {
+        list[place] = value;
     }
 }
 
 // The referent of each node.
-pub fn list_referents(refs: &[u32], k: usize, t: u32, referents: &mut [u32])
-    requires { Listable refs.now k referents.old }
-    ensures { Lists (referent_at k (ref_at refs.now) t) referents.new }
+pub fn list_referents(refs: &Rows<'_, RefRow>, t: u32, referents: &mut [u32])
+    requires { Listable refs.now referents.old }
+    ensures { Lists (referent_at refs.now.count (ref_at refs.now.numbers) t) referents.new }
 {
-    let mut i: usize = 0;
-    while i < k {
-        if ref_in_force(refs, i, t) {
-            let a = ref_side(refs, i, Side::Attribute) as usize;
-            put_first(referents, a, ref_side(refs, i, Side::Target));
+    for i in 0..refs.len() {
+        let reference = refs.row(i);
+        if reference.in_force(t) {
+            put_first(referents, reference.attribute as usize, reference.target);
         }
-        i += 1;
     }
 }
 
 // The rows of a snapshot: the root's, and one for each node with a parent.
-pub fn count_rows(parents: &[u32], n: usize) -> usize
-    requires { n ≤ length parents.now }
-    ensures { result ≡ 1 + count (λ c. ltb (get_or parents.now c 0) n) n }
+pub fn count_rows(parents: &[u32]) -> usize
+    ensures { result ≡ 1 + count_by (λ p. ltb p (length parents.now)) parents.now }
 {
-    let mut rows: usize = 1;
-    let mut c: usize = 0;
-    while c < n {
-        let p = parents[c] as usize;
-        if p < n {
-            rows += 1;
-        }
-        c += 1;
-    }
-    rows
+    let n = parents.len();
+    1 + parents.iter().filter(|p| (**p as usize) < n).count()
 }
 
 // Links the children of each node, the last first, so that they rise from the first child on.
-pub fn link(parents: &[u32], n: usize, first: &mut [u32], next: &mut [u32])
-    requires { (n ≤ no_node) × (n ≤ length parents.now) × (n ≤ length first.old) × (n ≤ length next.old) }
-    ensures { links first.new next.new ≡ link_from parents.now n n
-        (links first.old next.old) }
+#[tactic(auto, using(crate::proofs::LinkLaws::link_turn), unfolding(crate::specs::Lists::link_from))]
+pub fn link(parents: &[u32], first: &mut [u32], next: &mut [u32])
+    requires { (length parents.now ≤ no_node) × (length parents.now ≤ length first.old)
+        × (length parents.now ≤ length next.old) }
+    ensures { links first.new next.new ≡ link_all parents.now (links first.old next.old) }
 {
-    let mut c = n;
-    while c > 0 {
-        c -= 1;
-        let p = parents[c] as usize;
-        if p < n {
-            next[c] = first[p];
-            first[p] = c as u32;
+    let n = parents.len();
+    for child in (0..n).rev() {
+        let parent = parents[child] as usize;
+        if parent < n {
+            next[child] = first[parent];
+            first[parent] = child as u32;
         }
     }
 }

@@ -4,20 +4,20 @@ use mathlib.Core.Path.{◌≡◌, refl, sym, ap, ◌∙◌, subst}
 use mathlib.Core.Logic.Iff
 use mathlib.Core.Logic.{◌≢◌, ◌↔◌, ⊎_elim}
 use mathlib.Core.Bool.{Bool, true, false, not, false≢true}
+use Rattle.std.specs.Prelude.{Some, None}
 use Prim.Native.Nat.{ℕ, ◌/◌, ◌%◌, ◌<◌}
 use native.Mathlib.Decide.{ℕ_discrete}
 use native.Mathlib.Nat.{div-add-mod', mul-div_cancel, mul-mod_left}
 use native.Mathlib.Omega.{arith}
-use lib.Dec.{ltb}
 use lib.ListN.{length}
 use borrow.Author.Tests.{not-false, eq-eqb, ne_eqb, lt-ltb, le-ltb}
 use Rattle.ground.specs.Tests.{Tells}
 use Rattle.ground.specs.Least.{Least, Smallest}
-use Rattle.ground.specs.Searches.{least}
+use Rattle.ground.specs.Searches.{least, found}
 use Rattle.ground.proofs.TestLaws.{tells_and, tells_not, tells_le, tells_eq, tells_fails, tells_dec}
 use Rattle.ground.proofs.LeastLaws.{least_unique, least_tells, all_or_least, search_missed}
-use Rattle.answers.specs.declared.Answer.{Answer}
-use Rattle.answers.specs.declared.Answer.TheVariants.{Start, Size, Node, Edge, Reference}
+use Rattle.answers.specs.Answers.{Answer}
+use Rattle.answers.specs.Answers.{Start, Size, Node, Edge, Reference}
 use Rattle.answers.specs.Numbers.{refuses, passed}
 use Rattle.answers.specs.Refusals.{when}
 use Rattle.answers.proofs.AnswerLaws.{both_pass, when_passes}
@@ -55,8 +55,11 @@ module _ (bad : ℕ → Bool) (P : ℕ → Type 0) (tells : (i : ℕ) → Tells 
   smallest_is : {k : ℕ} → Least P n k → k ≡ least bad n
   smallest_is l = least_unique P l (least_tells bad P n (λ i h. tells i))
 
-  none_bad : ((i : ℕ) → i < n → P i → ⊥) → ltb (least bad n) n ≡ false
-  none_bad f = le-ltb (least bad n) n (omega (arith, at))
+  found_is : {k : ℕ} → Smallest P n k → found bad n ≡ Some k
+  found_is (l, h) = let e = smallest_is l in rw (← e, lt-ltb _ _ h)
+
+  none_bad : ((i : ℕ) → i < n → P i → ⊥) → found bad n ≡ None
+  none_bad f = rw (← at, le-ltb n n (omega arith))
     where
       at : n ≡ least bad n
       at = search_missed bad {k = n} (omega arith) (λ i h t. f i h ((tells i).0 t))
@@ -96,10 +99,10 @@ module _ (L : Tables) where
   abbrev EdgesObey : Type 0
   EdgesObey = (i : ℕ) → i < L.edges.count → EdgeRule L.start L.nodes.count (node_in L) (edge_in L i)
 
-  nodes_right : NodesObey → ltb (least (bad_node_of (node_in L)) L.nodes.count) L.nodes.count ≡ false
+  nodes_right : NodesObey → found (bad_node_of (node_in L)) L.nodes.count ≡ None
   nodes_right f = none_bad (bad_node_of (node_in L)) (BadNode L) node_bad L.nodes.count (λ i h x. x (f i h))
 
-  edges_right : EdgesObey → ltb (least bad_edge L.edges.count) L.edges.count ≡ false
+  edges_right : EdgesObey → found bad_edge L.edges.count ≡ None
   edges_right f = none_bad bad_edge (BadEdge L) edge_bad L.edges.count (λ i h x. x (f i h))
 
   -- each answer in its turn
@@ -114,34 +117,28 @@ module _ (L : Tables) where
   module _ (ne : L.start ≢ Now) where
     node_is : {k : ℕ} → Smallest (BadNode L) L.nodes.count k → Node k ≡ rows_say L
     unfolding rows_say
-    node_is (l, h) =
-        simp (
-          ne_eqb L.start Now ne,
-          ← smallest_is (bad_node_of (node_in L)) (BadNode L) node_bad L.nodes.count l,
-          lt-ltb _ _ h,
-        )
+    node_is x =
+        simp (ne_eqb L.start Now ne, found_is (bad_node_of (node_in L)) (BadNode L) node_bad L.nodes.count x)
 
     module _ (nodes : NodesObey) where
       edge_is : {k : ℕ} → Smallest (BadEdge L) L.edges.count k → Edge k ≡ rows_say L
       unfolding rows_say
-      edge_is (l, h) =
+      edge_is x =
           simp (
             ne_eqb L.start Now ne,
             nodes_right nodes,
-            ← smallest_is bad_edge (BadEdge L) edge_bad L.edges.count l,
-            lt-ltb _ _ h,
+            found_is bad_edge (BadEdge L) edge_bad L.edges.count x,
           )
 
       module _ (edges : EdgesObey) where
         reference_is : {k : ℕ} → Smallest (BadRef L) L.refs.count k → Reference k ≡ rows_say L
         unfolding rows_say
-        reference_is (l, h) =
+        reference_is x =
             simp (
               ne_eqb L.start Now ne,
               nodes_right nodes,
               edges_right edges,
-              ← smallest_is bad_ref (BadRef L) ref_bad L.refs.count l,
-              lt-ltb _ _ h,
+              found_is bad_ref (BadRef L) ref_bad L.refs.count x,
             )
 
   nothing_is : Obeys L → passed ≡ rows_say L
@@ -166,11 +163,11 @@ module _ (L : Tables) where
   gives_is (nothing o) = nothing_is o ∙ sized o.sizes
 
   -- one of them applies
-  Some : Type 0
-  Some = (a : Answer) × Gives L a
+  Given : Type 0
+  Given = (a : Answer) × Gives L a
 
-  some_ref : Sizes L → L.start ≢ Now → NodesObey → EdgesObey → Some
-  unfolding Some
+  some_ref : Sizes L → L.start ≢ Now → NodesObey → EdgesObey → Given
+  unfolding Given
   some_ref s ne f g =
       ⊎_elim
       (λ all. (
@@ -181,8 +178,8 @@ module _ (L : Tables) where
       (all_or_least (λ i. RefRule L.start L.nodes.count (node_in L) (ref_in L i))
       (λ i. tells_dec _ (ref_tells L.start L.nodes.count (node_in L) (ref_in L i))) L.refs.count)
 
-  some_edge : Sizes L → L.start ≢ Now → NodesObey → Some
-  unfolding Some
+  some_edge : Sizes L → L.start ≢ Now → NodesObey → Given
+  unfolding Given
   some_edge s ne f =
       ⊎_elim
       (some_ref s ne f)
@@ -190,8 +187,8 @@ module _ (L : Tables) where
       (all_or_least (λ i. EdgeRule L.start L.nodes.count (node_in L) (edge_in L i))
       (λ i. tells_dec _ (edge_tells L.start L.nodes.count (node_in L) (edge_in L i))) L.edges.count)
 
-  some_start : Sizes L → Dec (L.start ≡ Now) → Some
-  unfolding Some
+  some_start : Sizes L → Dec (L.start ≡ Now) → Given
+  unfolding Given
   some_start s (yes e) = (Start, start_now s e)
   some_start s (no ne) =
       ⊎_elim
@@ -199,15 +196,15 @@ module _ (L : Tables) where
       (λ (k, x). (Node k, node s ne x))
       (all_or_least (λ i. NodeRule i (node_in L i)) (λ i. tells_dec _ (node_tells i (node_in L i))) L.nodes.count)
 
-  some_size : Dec (NodesSize L.nodes) → Dec (EdgesSize L.edges) → Dec (RefsSize L.refs) → Some
-  unfolding Some
+  some_size : Dec (NodesSize L.nodes) → Dec (EdgesSize L.edges) → Dec (RefsSize L.refs) → Given
+  unfolding Given
   some_size (no f) d e = (Size 0, nodes_size f)
   some_size (yes n) (no f) e = (Size 1, edges_size n f)
   some_size (yes n) (yes m) (no f) = (Size 2, refs_size n m f)
   some_size (yes n) (yes m) (yes k) = some_start (record { nodes = n; edges = m; refs = k }) (ℕ_discrete L.start Now)
 
   pub gives_says : Gives L (history_says L)
-  unfolding Some
+  unfolding Given
   gives_says =
       let (a, g) = some_size (tells_dec _ n_tells) (tells_dec _ m_tells) (tells_dec _ k_tells) in
       subst (Gives L) (gives_is g) g

@@ -2,21 +2,19 @@
 use mathlib.Core.Path.{◌≡◌}
 use mathlib.Core.Logic.Iff
 use mathlib.Core.Logic.{◌≢◌, ◌⊎◌, inl, inr, ⊎_elim}
-use mathlib.Core.Bool.{Bool, true, false, not, ◌&&◌}
-use mathlib.Core.List.{List}
+use mathlib.Core.Bool.{Bool, true, false, ◌&&◌}
 use Prim.Native.Nat.{ℕ, ◌≤◌, ◌<◌}
 use native.Mathlib.Decide.{ℕ_discrete}
 use native.Mathlib.Omega.{arith}
 use Rattle.ground.specs.Tests.{Tells}
 use Rattle.ground.proofs.TestLaws.{tells_and, tells_or, tells_not, tells_le, tells_lt, tells_eq}
-use borrow.Author.Tests.{lt-ltb, le-ltb}
+use borrow.Author.Tests.{lt-ltb}
 use Rattle.tables.specs.declared.label.Label.{Label}
-use Rattle.tables.specs.Tables.{Now, NodeRow, EdgeRow, RefRow, cell_at}
+use Rattle.tables.specs.Tables.{Now, NodeRow, EdgeRow, RefRow}
 use Rattle.tables.specs.Labels.{instant_of, label_of}
-use Rattle.tables.specs.Rows.{from_at, to_at}
 use Rattle.tables.specs.Rules.{root, element, plain_attribute, id_attribute, ref_attribute, value, most_label}
 use Rattle.tables.specs.Rules.{NodeRule, MayHold, LabelRule, EdgeRule, RefRule}
-use Rattle.tables.specs.Tests.{node_rule_of, may_hold_of, may_refer_of, label_rule_of, may_join_of, join_rule, bad_row_of}
+use Rattle.tables.specs.Tests.{node_rule_of, may_hold_of, may_refer_of, label_rule_of, may_join_of, join_rule}
 use Rattle.tables.proofs.LabelLaws.{instant_end}
 
 pub node_tells : (i : ℕ) (x : NodeRow) → Tells (node_rule_of i x) (NodeRule i x)
@@ -104,21 +102,11 @@ module _ (start n : ℕ) (node : ℕ → NodeRow) where
         λ x. ((x.attribute, x.target), ((x.attribute_kind, x.target_kind), x.label)),
       )
 
--- the test of row i, by its nodes, its label, and the two answers that it asks for
-module _ (refers : Bool) (start n : ℕ) (node : ℕ → NodeRow) (w : ℕ) (xs : List ℕ) (i : ℕ) where
-  module _ {a : ℕ} (ea : a ≡ cell_at w xs i 0) where
-    pub first_out : n ≤ a → true ≡ bad_row_of refers start n node w xs i
-    unfolding bad_row_of
-    first_out h = simp (← ea, le-ltb _ _ h)
-
-    module _ (la : a < n) {b : ℕ} (eb : b ≡ cell_at w xs i 1) where
-      pub second_out : n ≤ b → true ≡ bad_row_of refers start n node w xs i
-      unfolding bad_row_of
-      second_out h = simp (← ea, ← eb, lt-ltb _ _ la, le-ltb _ _ h)
-
-      pub both_in : b < n → {x y : ℕ} → x ≡ (node a).kind → y ≡ (node b).kind → {may : Bool} → may ≡ may_join_of refers x y
-          → {l : Label} → l ≡ label_of (from_at w xs i) (to_at w xs i) → {ruled : Bool}
-          → ruled ≡ label_rule_of start l.from (instant_of l.end)
-          → not (may && ruled) ≡ bad_row_of refers start n node w xs i
-      unfolding bad_row_of
-      both_in lb ex ey em el er = simp (← ea, ← eb, lt-ltb _ _ la, lt-ltb _ _ lb, em, ex, ey, er, el, instant_end)
+-- a row that joins nodes that there are, by the numbers of their kinds and by its label
+pub joins_is : (refers : Bool) (start n : ℕ) (node : ℕ → NodeRow) (from to : ℕ) {a b : ℕ} → a < n → b < n
+    → {x y : NodeRow} → x ≡ node a → y ≡ node b → {p q : ℕ} → p ≡ x.kind → q ≡ y.kind
+    → {may : Bool} → may ≡ may_join_of refers p q
+    → {l : Label} → l ≡ label_of from to → {ruled : Bool} → ruled ≡ label_rule_of start l.from (instant_of l.end)
+    → may && ruled ≡ join_rule refers start n node a b from to
+joins_is refers start n node from to la lb ex ey ep eq em el er =
+    simp (lt-ltb _ _ la, lt-ltb _ _ lb, em, ep, eq, ex, ey, er, el, instant_end)

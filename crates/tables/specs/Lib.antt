@@ -1,6 +1,9 @@
+pub mod Numbered
 pub mod Tables
 pub mod Rules
+pub mod Kinds
 pub mod Labels
 pub mod Rows
+pub mod Joins
 pub mod Tests
 pub mod Says

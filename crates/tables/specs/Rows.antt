@@ -2,15 +2,13 @@
 -- many numbers a row has.
 --   from_at, to_at                     the last two numbers of a row of either kind, its label
 --   HasNodes, HasEdges, HasRefs      the table has so many whole rows, or more; HasRows: where rows have w numbers
---   side_of                           the attribute of a reference, or its target
+--   Side, side_of                     the two ends of a reference: its attribute, and its target
 --   set_end                           a table whose row i has another end
 --   set_row                           a table whose row i has other numbers; set_edge_of: a containment table, and
 --                                    edge_numbers, a containment row's numbers
 -- Assumes nothing.
 use Rattle.std.specs.Prelude.{List, [], ◌∷◌, ℕ, ◌+◌, ◌-◌, ◌*◌, ◌≤◌, length, set}
 use Rattle.std.proofs.lemmas.List.Edits.{sets}
-use Rattle.tables.specs.declared.rows.Side.{Side}
-use Rattle.tables.specs.declared.rows.Side.TheVariants.{Attribute, Target}
 use Rattle.tables.specs.Tables.{EdgeRow, RefRow, node_width, edge_width, ref_width, cell_at}
 
 -- [01:Instants and tables] a row of either kind ends with "from, to"
@@ -19,6 +17,10 @@ from_at w xs i = cell_at w xs i (w - 2)
 
 abbrev pub to_at : ℕ → List ℕ → ℕ → ℕ
 to_at w xs i = cell_at w xs i (w - 1)
+
+pub data Side : Type 0 where
+  Attribute : Side
+  Target : Side
 
 abbrev pub side_of : Side → RefRow → ℕ
 side_of Attribute r = r.attribute

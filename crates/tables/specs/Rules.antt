@@ -1,8 +1,8 @@
 -- The sizes of tables, the rules of rows, and when each of the codes 1 to 5 is given. Assumes nothing.
 use Rattle.std.specs.Prelude.{◌≡◌, ◌≢◌, ◌⊎◌, ℕ, ◌*◌, ◌≤◌, ◌<◌, length}
 use Rattle.ground.specs.Least.{Smallest}
-use Rattle.answers.specs.declared.Answer.{Answer}
-use Rattle.answers.specs.declared.Answer.TheVariants.{Size, Start, Node, Edge, Reference}
+use Rattle.answers.specs.Answers.{Answer}
+use Rattle.answers.specs.Answers.{Size, Start, Node, Edge, Reference}
 use Rattle.answers.specs.Numbers.{passed}
 use Rattle.tables.specs.Tables.{Now, NodeRow, EdgeRow, RefRow, node_width, edge_width, ref_width, Table, Tables}
 use Rattle.tables.specs.Tables.{node_in, edge_in, ref_in}

@@ -1,21 +1,27 @@
 -- What the sizes and the rules of rows answer, computed: codes 1 to 5 in their order, each with the smallest row.
 -- proofs/GivesLaws.antt ties it to specs/Rules.antt: it is the one answer that `Gives` allows.
+--   named        the answer that names a row that was found
 --   smallest     the answer that names the smallest bad row
 --   sizes_say     1: the sizes
 --   rows_say      2 to 5: the start, the node rows, the containment rows, the reference rows
 --   history_says  1 to 5
 -- Assumes nothing.
-use Rattle.std.specs.Prelude.{Bool, true, false, not, ℕ, ltb, eqb}
-use Rattle.ground.specs.Searches.{least}
-use Rattle.answers.specs.declared.Answer.{Answer}
-use Rattle.answers.specs.declared.Answer.TheVariants.{Size, Start, Node, Edge, Reference}
+use Rattle.std.specs.Prelude.{Bool, true, false, not, ℕ, eqb, Option, Some, None}
+use Rattle.ground.specs.Searches.{found}
+use Rattle.answers.specs.Answers.{Answer}
+use Rattle.answers.specs.Answers.{Size, Start, Node, Edge, Reference}
+use Rattle.answers.specs.Numbers.{passed}
 use Rattle.answers.specs.Refusals.{when, ◌⨾◌}
 use Rattle.tables.specs.Tables.{Now, edge_width, ref_width, Table, Tables, node_in}
 use Rattle.tables.specs.Tests.{nodes_fit, edges_fit, refs_fit, bad_node_of, bad_row_of}
 
+abbrev pub named : (ℕ → Answer) → Option ℕ → Answer
+named answer None = passed
+named answer (Some row) = answer row
+
 -- the answer that names the smallest bad row of n, where there is one
 abbrev pub smallest : (ℕ → Answer) → (ℕ → Bool) → ℕ → Answer
-smallest answer bad n = when (ltb (least bad n) n) (answer (least bad n))
+smallest answer bad n = named answer (found bad n)
 
 -- [01:What the calls answer] "SIZE: a table is not whole rows or is out of size; place 0 nodes, 1 containment, 2
 -- references: the first such"

@@ -1,5 +1,10 @@
 -- Instants, rows, and the tables that are lent to a call: numbers, row after row. Assumes nothing.
 use Rattle.std.specs.Prelude.{List, ℕ, ◌+◌, ◌*◌, ◌≤◌, get_or}
+use Rattle.tables.specs.declared.rows.NodeRow.{NodeRow as Node}
+use Rattle.tables.specs.declared.rows.EdgeRow.{EdgeRow as Edge}
+use Rattle.tables.specs.declared.rows.RefRow.{RefRow as Reference}
+use Rattle.tables.specs.Numbered.{Numbered}
+use Rattle.tables.specs.declared.lent.Tables.{Tables as Lent}
 
 -- [01:Instants and tables] "An instant is a whole number of seconds, 0 to 4,294,967,295. Instant 0 is 2000-01-01
 -- 00:00:00 with days of 86,400 seconds. The largest instant is called Now; a row ending there is current."
@@ -11,24 +16,16 @@ abbrev pub During : ℕ → ℕ → ℕ → Type 0
 During from to t = (from ≤ t) × (t ≤ to)
 
 -- [01:Instants and tables] "Node row, 3 numbers: kind, label, value."
-pub record NodeRow : Type 0 where
-  pub kind : ℕ
-  pub label : ℕ
-  pub value : ℕ
+abbrev pub NodeRow : Type 0
+NodeRow = Node
 
 -- [01:Instants and tables] "Containment row, 4 numbers: parent, child, from, to."
-pub record EdgeRow : Type 0 where
-  pub parent : ℕ
-  pub child : ℕ
-  pub from : ℕ
-  pub to : ℕ
+abbrev pub EdgeRow : Type 0
+EdgeRow = Edge
 
 -- [01:Instants and tables] "Reference row, 4 numbers: attribute (kind 4), target (kind 1), from, to."
-pub record RefRow : Type 0 where
-  pub attribute : ℕ
-  pub target : ℕ
-  pub from : ℕ
-  pub to : ℕ
+abbrev pub RefRow : Type 0
+RefRow = Reference
 
 -- how many numbers a row has
 abbrev pub node_width : ℕ
@@ -59,15 +56,12 @@ unfoldable pub ref_at : List ℕ → ℕ → RefRow
 ref_at rs i = let c = cell_at ref_width rs i in record { attribute = c 0; target = c 1; from = c 2; to = c 3 }
 
 -- numbers that were lent, and a count of rows: SIZE asks that they agree
-pub record Table : Type 0 where
-  pub numbers : List ℕ
-  pub count : ℕ
+abbrev pub Table : Type 0
+Table = Numbered
 
-pub record Tables : Type 0 where
-  pub start : ℕ
-  pub nodes : Table
-  pub edges : Table
-  pub refs : Table
+-- the start, and the tables of nodes, edges and refs
+abbrev pub Tables : Type 0
+Tables = Lent
 
 abbrev pub table : List ℕ → ℕ → Table
 table xs m = record { numbers = xs; count = m }

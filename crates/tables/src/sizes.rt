@@ -1,12 +1,13 @@
 // The sizes of tables, and the rule that judges a lent count of rows (code 1).
-ghost use Rattle.std.specs.Prelude.{◌≡◌, ◌<◌};
-ghost use Rattle.tables.specs.Tables.{table};
+ghost use Rattle.std.specs.Prelude.{◌≡◌, length};
 ghost use Rattle.tables.specs.Tests.{size_rule_of};
 ghost use Rattle.tables.specs.Says.{sizes_say};
 
-use super::rows::{EDGE_WIDTH, NODE_WIDTH, REF_WIDTH};
-use answers::Answer;
+use super::lent::{Table, Tables};
+use super::rows::{EdgeRow, NodeRow, RefRow, Row};
+use answers::{Answer, PASSED, Refusal};
 
+// Buffers are arrays of the most that there can be: the library takes its memory from the stack, and no heap.
 pub const LEAST_NODES: usize = 1;
 
 pub const MOST_NODES: usize = 1024;
@@ -15,34 +16,29 @@ pub const MOST_EDGES: usize = 2048;
 
 pub const MOST_REFS: usize = 1024;
 
-// So many numbers are `count` whole rows of `width`, at least `least` and at most `most` of them.
-fn size_rule(width: usize, least: usize, most: usize, count: usize, numbers: usize) -> bool
-    requires { 0 < width }
-    ensures { result ≡ size_rule_of width least most count numbers }
+// A table's numbers are as many whole rows as its count says, at least `least` and at most `most` of them.
+#[tactic(auto, unfolding(crate::specs::Tests::size_rule_of))]
+fn size_rule<R: Row>(table: &Table<'_>, least: usize, most: usize) -> bool
+    ensures { result ≡ size_rule_of R.WIDTH least most table.now.count (length table.now.numbers) }
 {
-    (numbers % width == 0) & (numbers / width == count) & ((least <= count) & (count <= most))
+    let numbers = table.numbers.len();
+    let count = table.count;
+    (numbers % R::WIDTH == 0) & (numbers / R::WIDTH == count) & ((least <= count) & (count <= most))
 }
 
 // Code 1 of three tables, each with its count of rows.
-pub fn judge_sizes(
-    nodes: &[u32],
-    n: usize,
-    edges: &[u32],
-    m: usize,
-    refs: &[u32],
-    k: usize,
-) -> Answer
-    ensures { result ≡ sizes_say (table nodes.now n) (table edges.now m)
-        (table refs.now k) }
+#[tactic(auto, unfolding(crate::specs::Says::sizes_say))]
+pub fn judge_sizes(tables: &Tables<'_>) -> Answer
+    ensures { result ≡ sizes_say tables.now.nodes tables.now.edges tables.now.refs }
 {
-    if !size_rule(NODE_WIDTH, LEAST_NODES, MOST_NODES, n, nodes.len()) {
-        return Answer::Size(0);
+    if !size_rule::<NodeRow>(&tables.nodes, LEAST_NODES, MOST_NODES) {
+        return Err(Refusal::Size(0));
     }
-    if !size_rule(EDGE_WIDTH, 0, MOST_EDGES, m, edges.len()) {
-        return Answer::Size(1);
+    if !size_rule::<EdgeRow>(&tables.edges, 0, MOST_EDGES) {
+        return Err(Refusal::Size(1));
     }
-    if !size_rule(REF_WIDTH, 0, MOST_REFS, k, refs.len()) {
-        return Answer::Size(2);
+    if !size_rule::<RefRow>(&tables.refs, 0, MOST_REFS) {
+        return Err(Refusal::Size(2));
     }
-    Answer::Done(0, 0)
+    Ok(PASSED)
 }

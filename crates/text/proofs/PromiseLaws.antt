@@ -11,15 +11,17 @@ use lib.ListN.{length, take, drop}
 use lib.Seq.{take-append_seam}
 use Rattle.ground.specs.Lists.{front}
 use Rattle.ground.proofs.TestLaws.{by_test, by_lt}
-use Rattle.answers.specs.declared.Answer.{Answer}
-use Rattle.answers.specs.declared.Answer.TheVariants.{Done, Size, Room, Text}
-use Rattle.answers.specs.Numbers.{refuses, passed}
+use Rattle.std.specs.Prelude.{Result, Ok, Err}
+use Rattle.answers.specs.declared.Refusal.{Refusal}
+use Rattle.answers.specs.declared.Refusal.TheVariants.{Room, Text}
+use Rattle.answers.specs.Answers.{Answer, Done, Size}
+use Rattle.answers.specs.Numbers.{refuses}
 use Rattle.tables.specs.Tables.{Now, node_width, edge_width, ref_width, Table, Tables, lent}
 use Rattle.tables.specs.Rules.{Whole, SizeRule, Sizes, Gives, nodes_size, edges_size, refs_size}
 use Rattle.tables.proofs.GivesLaws.{gives_is, sizes_pass}
-use Rattle.text.specs.declared.read.TextReading.{TextReading}
+use Rattle.text.specs.declared.forms.Counts.{Counts}
 use Rattle.text.specs.Text.{Small, LendableTable, Lendable, text_of}
-use Rattle.text.specs.Answers.{Written, out_of_size, short, wrote, Accepted, no_tables, reading_of, Fits, TooShort}
+use Rattle.text.specs.Answers.{Written, out_of_size, short, wrote, Accepted, counts_of, Fits, TooShort}
 use Rattle.text.specs.Answers.{nodes_short, edges_short, refs_short, Read, wrong_text, no_room, took}
 use Rattle.text.proofs.TieLaws.{sizes_of}
 use Rattle.text.proofs.RoundTrip.{accepted_unique, accepted_or_not, place_unique}
@@ -75,30 +77,30 @@ short_not_fits (nodes_short x) h = omega arith
 short_not_fits (edges_short a x) h = omega arith
 short_not_fits (refs_short a b x) h = omega arith
 
-pub read_unique : {s n e f : List ℕ} {r q : TextReading} {n' e' f' n'' e'' f'' : List ℕ} → Read s n e f r n' e' f'
-    → Read s n e f q n'' e'' f''
+pub read_unique : {s n e f : List ℕ} {r q : Result Counts Refusal} {n' e' f' n'' e'' f'' : List ℕ}
+    → Read s n e f r n' e' f' → Read s n e f q n'' e'' f''
     → (r ≡ q) × (n' ≡ n'') × (e' ≡ e'') × (f' ≡ f'')
 read_unique {s} (wrong_text x p) (wrong_text y q) =
-    (ap (λ (i : ℕ). reading_of (Text i) no_tables) (place_unique s _ _ p q), refl, refl, refl)
+    (ap (λ (i : ℕ). Err (Text i)) (place_unique s _ _ p q), refl, refl, refl)
 read_unique (wrong_text x p) (no_room b k) = absurd (x _ b)
 read_unique (wrong_text x p) (took b h) = absurd (x _ b)
 read_unique (no_room a j) (wrong_text y q) = absurd (y _ a)
 read_unique (no_room a j) (no_room b k) =
     let q = short_unique j (rw (accepted_unique b a) at k) in
-    (ap (λ (p : ℕ). reading_of (Room 0 p) no_tables) q, refl, refl, refl)
+    (ap (λ (p : ℕ). Err (Room 0 p)) q, refl, refl, refl)
 read_unique (no_room a j) (took b h) = absurd (short_not_fits j (rw (accepted_unique b a) at h))
 read_unique (took a g) (wrong_text y q) = absurd (y _ a)
 read_unique (took a g) (no_room b i) = absurd (short_not_fits i (rw (accepted_unique a b) at g))
 read_unique {n = n} {e} {f} (took a g) (took b h) =
     let q = accepted_unique a b in (
-      ap (reading_of passed) q,
+      ap (λ (t : Tables). Ok (counts_of t)) q,
       ap (λ (t : Tables). front t.nodes.numbers n) q,
       ap (λ (t : Tables). front t.edges.numbers e) q,
       ap (λ (t : Tables). front t.refs.numbers f) q,
     )
 
 pub read_exists : (s n e f : List ℕ)
-    → (r : TextReading) × (n' : List ℕ) × (e' : List ℕ) × (f' : List ℕ) × Read s n e f r n' e' f'
+    → (r : Result Counts Refusal) × (n' : List ℕ) × (e' : List ℕ) × (f' : List ℕ) × Read s n e f r n' e' f'
 read_exists s n e f =
     ⊎_elim
     (λ (t, a).
@@ -110,11 +112,11 @@ read_exists s n e f =
     (accepted_or_not s)
 
 -- where a caller finds what was read: the tables that lie at the front of the lent ones, by the start and the counts
--- of the answer
-abbrev pub fronts : TextReading → List ℕ → List ℕ → List ℕ → Tables
-fronts r n e f =
-    lent r.start (take (r.nodes * node_width) n) r.nodes (take (r.edges * edge_width) e) r.edges
-    (take (r.refs * ref_width) f) r.refs
+-- that were answered
+abbrev pub fronts : Counts → List ℕ → List ℕ → List ℕ → Tables
+fronts c n e f =
+    lent c.start (take (c.nodes * node_width) n) c.nodes (take (c.edges * edge_width) e) c.edges
+    (take (c.refs * ref_width) f) c.refs
 
 -- the counted rows at the front of a table that the rows of x fill
 pub counted_front : (w : ℕ) (x : Table) (old : List ℕ) → Whole w x
@@ -124,7 +126,7 @@ counted_front w x old e =
     ∙ take-append_seam x.numbers (drop (length x.numbers) old)
 
 fronts_are : (t : Tables) (n e f : List ℕ) → Lendable t
-    → fronts (reading_of passed t) (front t.nodes.numbers n) (front t.edges.numbers e)
+    → fronts (counts_of t) (front t.nodes.numbers n) (front t.edges.numbers e)
     (front t.refs.numbers f) ≡ t
 fronts_are t n e f o =
     rw (
@@ -134,22 +136,17 @@ fronts_are t n e f o =
     )
 
 module _ {s n e f : List ℕ} where
-  pub read_frame : {r : TextReading} {n' e' f' : List ℕ} → Read s n e f r n' e' f' → refuses r.answer ≡ true
-      → (r ≡ reading_of r.answer no_tables) × (n' ≡ n) × (e' ≡ e) × (f' ≡ f)
-  read_frame (wrong_text x p) c = (refl, refl, refl, refl)
-  read_frame (no_room a k) c = (refl, refl, refl, refl)
-  read_frame (took a h) c = absurd (false≢true c)
+  pub read_frame : {x : Refusal} {n' e' f' : List ℕ} → Read s n e f (Err x) n' e' f' → (n' ≡ n) × (e' ≡ e) × (f' ≡ f)
+  read_frame (wrong_text x p) = (refl, refl, refl)
+  read_frame (no_room a k) = (refl, refl, refl)
 
   -- what lies at the fronts is what the text is the text of
-  pub read_fronts : {r : TextReading} {n' e' f' : List ℕ} → Read s n e f r n' e' f' → refuses r.answer ≡ false
-      → Accepted s (fronts r n' e' f')
-  read_fronts (wrong_text x p) c = absurd (false≢true (sym c))
-  read_fronts (no_room a k) c = absurd (false≢true (sym c))
-  read_fronts (took {t} a h) c = subst (Accepted s) (sym (fronts_are t n e f a.lendable)) a
+  pub read_fronts : {c : Counts} {n' e' f' : List ℕ} → Read s n e f (Ok c) n' e' f' → Accepted s (fronts c n' e' f')
+  read_fronts (took {t} a h) = subst (Accepted s) (sym (fronts_are t n e f a.lendable)) a
 
-  pub read_accepted : {t : Tables} {r : TextReading} {n' e' f' : List ℕ} → Accepted s t → Fits t n e f
+  pub read_accepted : {t : Tables} {r : Result Counts Refusal} {n' e' f' : List ℕ} → Accepted s t → Fits t n e f
       → Read s n e f r n' e' f'
-      → (r ≡ reading_of passed t)
+      → (r ≡ Ok (counts_of t))
       × (n' ≡ front t.nodes.numbers n)
       × (e' ≡ front t.edges.numbers e)
       × (f' ≡ front t.refs.numbers f)
@@ -180,10 +177,10 @@ module _ {t : Tables} {out : List ℕ} {a : Answer} {out' : List ℕ} (w : Writt
         text = ap (take (length (text_of t))) held ∙ take-append_seam (text_of t) (drop (length (text_of t)) out);
       }
 
-  pub read_written : {n e f : List ℕ} {r : TextReading} {n' e' f' : List ℕ}
+  pub read_written : {n e f : List ℕ} {r : Result Counts Refusal} {n' e' f' : List ℕ}
       → Read (take (length (text_of t)) out') n e f r n' e' f'
       → Fits t n e f
-      → (r ≡ reading_of passed t)
+      → (r ≡ Ok (counts_of t))
       × (n' ≡ front t.nodes.numbers n)
       × (e' ≡ front t.edges.numbers e)
       × (f' ≡ front t.refs.numbers f)
@@ -197,7 +194,7 @@ write_accepted {s} {t} {out} a h =
 
 -- [demand 2] "accepted text written again is the same text": what read text left, write text, given room, writes as
 -- that text
-module _ {s n e f : List ℕ} {r : TextReading} {n' e' f' out : List ℕ} {a : Answer} {out' : List ℕ}
-    (x : Read s n e f r n' e' f') (c : refuses r.answer ≡ false) (w : Written (fronts r n' e' f') out a out') where
+module _ {s n e f : List ℕ} {c : Counts} {n' e' f' out : List ℕ} {a : Answer} {out' : List ℕ}
+    (x : Read s n e f (Ok c) n' e' f') (w : Written (fronts c n' e' f') out a out') where
   pub write_read : length s ≤ length out → (a ≡ Done 0 (length s)) × (out' ≡ front s out)
-  write_read h = write_unique w (write_accepted (read_fronts x c) h)
+  write_read h = write_unique w (write_accepted (read_fronts x) h)

@@ -1,34 +1,34 @@
 -- Read text, its second pass, and what it leaves, case by case. Assumes nothing.
-use mathlib.Core.Bool.{true, false, false≢true}
+use mathlib.Core.Bool.{true}
 use mathlib.Core.List.{List, []}
 use mathlib.Core.Logic.{◌⊎◌, inl, inr, ⊎_elim}
-use mathlib.Core.Path.{◌≡◌, refl, sym, ap, subst, subst⁻¹, ◌∙◌}
-use Prim.Native.Nat.{ℕ, ◌*◌, ◌≤◌}
+use mathlib.Core.Path.{◌≡◌, refl, sym, ap, subst, ◌∙◌}
+use Prim.Native.Nat.{ℕ, ◌*◌}
 use native.Mathlib.Omega.{arith}
 use lib.ListN.{length}
 use borrow.Author.Tests.{lt-ltb, le-ltb}
-use Rattle.answers.specs.declared.Answer.{Answer}
-use Rattle.answers.specs.declared.Answer.TheVariants.{Room, Text}
-use Rattle.answers.specs.Numbers.{refuses, passed}
+use Rattle.std.specs.Prelude.{Ok, Err}
+use Rattle.answers.specs.declared.Outcome.{Outcome}
+use Rattle.answers.specs.declared.Refusal.{Refusal}
+use Rattle.answers.specs.declared.Refusal.TheVariants as refusal
+use Rattle.answers.specs.Answers.{Answer, Room}
+use Rattle.answers.specs.Numbers.{passed}
 use Rattle.tables.specs.Tables.{node_width, edge_width, ref_width, Tables}
 use Rattle.ground.specs.Lists.{front}
-use Rattle.ground.proofs.ListLaws.{stands_within, sets_front}
+use Rattle.ground.proofs.ListLaws.{sets_front}
 use Rattle.ground.proofs.TestLaws.{by_lt}
-use Rattle.lines.specs.declared.read.Ended.TheVariants.{At, Wrong}
-use Rattle.lines.specs.Reads.{Got, got, wrong, lines_at, ended_of, is_got, got_of, numbers_of, place_of}
+use Rattle.lines.specs.Reads.{Got, got, wrong, lines_at, is_got, got_of, numbers_of, place_of}
 use Rattle.lines.specs.Plans.{plan_at}
 use Rattle.lines.specs.Fills.{FillableLines, Filled}
-use Rattle.lines.proofs.GotLaws.{got_place, got_is, got_of_lem, is_got_lem, at_wrong, got_then}
-use Rattle.lines.proofs.LineLaws.{lines_is}
-use Rattle.lines.proofs.PlanLaws.{plan_is}
+use Rattle.lines.proofs.GotLaws.{got_place, got_is, got_of_lem, is_got_lem, got_then}
 use Rattle.text.specs.declared.forms.Counts.{Counts}
-use Rattle.text.specs.declared.read.TextReading.{TextReading}
-use Rattle.text.specs.Forms.{counted, counts_of, node_key, edge_key, ref_key, node_form, edge_form, ref_form}
-use Rattle.text.specs.Reads.{head_plan, rows_plan, whole, read_text, short_says, Announced, Held}
-use Rattle.text.specs.Answers.{Accepted, no_tables, reading_of, Fits, TooShort, nodes_short, edges_short}
+use Rattle.text.specs.Forms.{counted, node_key, edge_key, ref_key, node_form, edge_form, ref_form}
+use Rattle.text.specs.Answers.{counts_of}
+use Rattle.text.specs.Reads.{rows_plan, read_text, short_says, Headed, Announced, Held}
+use Rattle.text.specs.Answers.{Accepted, no_tables, Fits, TooShort, nodes_short, edges_short}
 use Rattle.text.specs.Answers.{refs_short, Read, wrong_text, no_room, took}
 use Rattle.text.proofs.RoundTrip.{refused, not_of_form, write_of_read}
-use Rattle.text.proofs.ScanLaws.{rows_at, read_counted, scan_all}
+use Rattle.text.proofs.ScanLaws.{rows_at, headed_rows}
 
 -- ---- the second pass, where all rows are right
 
@@ -46,27 +46,21 @@ module _ (s : List ℕ) (c : Counts) (at : ℕ) where
     pub nodes : is_got nodes_got ≡ true
     pub edges : is_got edges_got ≡ true
     pub refs : is_got refs_got ≡ true
-    pub nodes_end : place_of nodes_got ≤ length s
-    pub edges_end : place_of edges_got ≤ length s
     pub all : counted c (numbers_of nodes_got) (numbers_of edges_got) (numbers_of refs_got) ≡ t
 
-  pub rows_right : (t : Tables) (n : ℕ) → at ≤ length s → rows_at s c at ≡ got t n → RowsRight t
+  pub rows_right : (t : Tables) (n : ℕ) → rows_at s c at ≡ got t n → RowsRight t
   unfolding rows_plan plan_at
-  rows_right t n h e =
+  rows_right t n e =
       let (ns, i, a, e₁) = got_then _ nodes_got t n e in
       let (es, j, b₀, e₂) = got_then _ (lines_at edge_key edge_form s c.edges i) t n e₁ in
       let b : edges_got ≡ got es j = ap (lines_at edge_key edge_form s c.edges) (got_place _ a) ∙ b₀ in
       let (rs, k, d₀, e₃) = got_then _ (lines_at ref_key ref_form s c.refs j) t n e₂ in
       let d : refs_got ≡ got rs k = ap (lines_at ref_key ref_form s c.refs) (got_place _ b) ∙ d₀ in
-      let h₁ : i ≤ length s = stands_within h (lines_is node_key node_form s c.nodes at ns i a).stands in
-      let h₂ : j ≤ length s = stands_within h₁ (lines_is edge_key edge_form s c.edges i es j b₀).stands in
       let q : counted c ns es rs ≡ t = cc in
       record {
         nodes = got_is _ a;
         edges = got_is _ b;
         refs = got_is _ d;
-        nodes_end = omega (arith, got_place _ a);
-        edges_end = omega (arith, got_place _ b);
         all = rw (got_of_lem [] _ a, got_of_lem [] _ b, got_of_lem [] _ d) q;
       }
 
@@ -76,15 +70,15 @@ module _ {s : List ℕ} {at : ℕ} {c : Counts} {n e f : List ℕ} (x : Announce
   told = got_of no_tables (rows_at s c at)
 
   right : RowsRight s c at told
-  right = rows_right s c at told (place_of (rows_at s c at)) x.reached (is_got_lem no_tables (rows_at s c at) x.good)
+  right = rows_right s c at told (place_of (rows_at s c at)) (is_got_lem no_tables (rows_at s c at) x.good)
 
   pub fill_nodes : FillableLines node_key node_form s c.nodes at n
-  fill_nodes = record { reached = x.reached; room = x.nodes; good = right.nodes; shown = refl }
+  fill_nodes = record { room = x.nodes; good = right.nodes; shown = refl }
 
   module _ {n' : List ℕ} {i : ℕ} (a : Filled (nodes_got s c at) n 0 n' i) where
     pub fill_edges : FillableLines edge_key edge_form s c.edges i e
     fill_edges =
-        rw a.after (record { reached = right.nodes_end; room = x.edges; good = right.edges; shown = refl })
+        rw a.after (record { room = x.edges; good = right.edges; shown = refl })
 
     module _ {e' : List ℕ} {j : ℕ} (b : Filled (lines_at edge_key edge_form s c.edges i) e 0 e' j) where
       abbrev then_edges_lem : Filled (edges_got s c at) e 0 e' j
@@ -93,7 +87,7 @@ module _ {s : List ℕ} {at : ℕ} {c : Counts} {n e f : List ℕ} (x : Announce
       pub fill_refs : FillableLines ref_key ref_form s c.refs j f
       fill_refs =
           rw then_edges_lem.after
-          (record { reached = right.edges_end; room = x.refs; good = right.refs; shown = refl })
+          (record { room = x.refs; good = right.refs; shown = refl })
 
       pub rows_held : {f' : List ℕ} {k : ℕ} → Filled (lines_at ref_key ref_form s c.refs j) f 0 f' k
           → Held told n e f n' e' f'
@@ -101,33 +95,26 @@ module _ {s : List ℕ} {at : ℕ} {c : Counts} {n e f : List ℕ} (x : Announce
           let d' : Filled (refs_got s c at) f 0 _ _ = rw then_edges_lem.after at d in
           rw (sym right.all) (record { nodes = a.held; edges = then_edges_lem.held; refs = d'.held })
 
--- ---- what the scan of the rows says of the text
+-- ---- what is read where all is right
 
-module _ (s : List ℕ) (c : Counts) (at : ℕ) (head : plan_at head_plan s 0 ≡ got c at) where
-  pub head_within : at ≤ length s
-  head_within = let (ls, laid, st) = plan_is head_plan s 0 c at head in stands_within (omega arith) st
+-- the tables of the text, with the counts that its first lines tell
+pub record TextRight (s : List ℕ) (c : Counts) (at : ℕ) : Type 0 where
+  pub tables : Tables
+  pub accepted : Accepted s tables
+  pub place : ℕ
+  pub got_rows : rows_at s c at ≡ got tables place
+  pub counts : counts_of tables ≡ c
 
-  pub text_wrong : (p : ℕ) → ended_of (whole s (rows_at s c at)) ≡ Wrong p → read_text s ≡ wrong p
-  text_wrong p e = read_counted s c at head ∙ at_wrong _ p e
-
-  -- the tables of the text, with the counts that its first lines tell
-  pub record TextRight : Type 0 where
-    pub tables : Tables
-    pub accepted : Accepted s tables
-    pub place : ℕ
-    pub got_rows : rows_at s c at ≡ got tables place
-    pub counts : counts_of tables ≡ c
-
-  pub text_right : (n : ℕ) → ended_of (whole s (rows_at s c at)) ≡ At n → TextRight
-  text_right n e =
-      let (t, r, w) = scan_all s (rows_at s c at) n e in
-      record {
-        tables = t;
-        accepted = write_of_read s t n (read_counted s c at head ∙ w);
-        place = n;
-        got_rows = r;
-        counts = ap counts_of (sym (rows_right s c at t n head_within r).all);
-      }
+pub text_right : {s : List ℕ} {c : Counts} {at : ℕ} → Headed s c at → TextRight s c at
+text_right {s} {c} {at} h =
+    let (t, n, r, w) = headed_rows h in
+    record {
+      tables = t;
+      accepted = write_of_read s t n w;
+      place = n;
+      got_rows = r;
+      counts = ap counts_of (sym (rows_right s c at t n r).all);
+    }
 
 -- ---- the room that is judged, in words
 
@@ -154,72 +141,75 @@ module _ (t : Tables) (n e f : List ℕ) where
       (λ b. by_lt (length f) (length t.refs.numbers) (λ z. inl (2, refs_short a b z))
       (λ d. inr (record { nodes = a; edges = b; refs = d }))))
 
-  -- where room is not refused, it is there
-  pub room_there : refuses judged ≡ false → Fits t n e f
-  room_there w =
-      ⊎_elim (λ (k, x). absurd (false≢true (sym w ∙ ap refuses (judged_short x)))) (λ h. h) short_or_fits
+  -- where room is not refused, it is there; else which table is too short
+  pub room_there : {o : Outcome} → judged ≡ Ok o → Fits t n e f
+  room_there {o} w =
+      ⊎_elim
+      (λ (k, x). let g = sym (judged_short x) ∙ w in let z : ◌≡◌ {A = ℕ} 0 1 = cc in absurd (omega arith))
+      (λ h. h)
+      short_or_fits
+
+  pub room_not : {x : Refusal} → judged ≡ Err x → (k : ℕ) × (x ≡ refusal.Room 0 k) × TooShort t n e f k
+  room_not {x} w =
+      ⊎_elim
+      (λ (k, y). let g = sym w ∙ judged_short y in let q : x ≡ refusal.Room 0 k = cc in (k, q, y))
+      (λ h. let g = sym w ∙ judged_fits h in let z : ◌≡◌ {A = ℕ} 0 1 = cc in absurd (omega arith))
+      short_or_fits
 
 -- ---- what is left, case by case
 
-pub read_wrong : {s n e f : List ℕ} {r : TextReading} {p : ℕ} → read_text s ≡ wrong p → r ≡ reading_of (Text p) no_tables
-    → Read s n e f r n e f
-read_wrong {s} {n} {e} {f} {p = p} w g =
-    subst⁻¹ (λ (q : TextReading). Read s n e f q n e f) g (wrong_text (not_of_form s p w) (refused s p w))
+pub read_wrong : {s n e f : List ℕ} {x : Refusal} {p : ℕ} → read_text s ≡ wrong p → x ≡ refusal.Text p
+    → Read s n e f (Err x) n e f
+read_wrong {s} {p = p} w g = rw g (wrong_text (not_of_form s p w) (refused s p w))
 
 -- the room that the counts ask for
 abbrev pub asked : Counts → List ℕ → List ℕ → List ℕ → Answer
 asked c n e f =
     short_says (c.nodes * node_width) (c.edges * edge_width) (c.refs * ref_width) (length n) (length e) (length f)
 
-module _ {s : List ℕ} {c : Counts} {at : ℕ} {head : plan_at head_plan s 0 ≡ got c at} (x : TextRight s c at head) where
+module _ {s : List ℕ} {c : Counts} {at : ℕ} (h : Headed s c at) where
+  abbrev x : TextRight s c at
+  x = text_right h
+
   -- it is that of the tables
-  room_is : (n e f : List ℕ) {room : Answer} → room ≡ asked c n e f → room ≡ judged x.tables n e f
+  room_is : (n e f : List ℕ) {room : Answer} → room ≡ asked c n e f → judged x.tables n e f ≡ room
   room_is n e f says =
       let o = x.accepted.lendable in
-      says ∙ rw (o.nodes.whole, o.edges.whole, o.refs.whole)
-      (ap (λ (d : Counts). asked d n e f) (sym x.counts))
+      sym (says ∙ rw (o.nodes.whole, o.edges.whole, o.refs.whole)
+      (ap (λ (d : Counts). asked d n e f) (sym x.counts)))
 
-  room_fits : {n e f : List ℕ} {room : Answer} → room ≡ asked c n e f → refuses room ≡ false → Fits x.tables n e f
-  room_fits {n} {e} {f} says w = room_there x.tables n e f (ap refuses (sym (room_is n e f says)) ∙ w)
+  pub room_short : {n e f : List ℕ} {room : Answer} {why : Refusal} → room ≡ asked c n e f → room ≡ Err why
+      → Read s n e f (Err why) n e f
+  room_short {n} {e} {f} says w =
+      let (k, q, y) = room_not x.tables n e f (room_is n e f says ∙ w) in
+      rw q (no_room x.accepted y)
 
-  pub room_short : {n e f : List ℕ} {room : Answer} {r : TextReading} → room ≡ asked c n e f → refuses room ≡ true
-      → r ≡ reading_of room no_tables → Read s n e f r n e f
-  room_short {n} {e} {f} says w g =
-      let t = x.tables in
-      let is = room_is n e f says in
-      ⊎_elim
-      (λ (k, y). rw (g, is, judged_short t n e f y) (no_room x.accepted y))
-      (λ h. absurd (false≢true (ap refuses (sym (is ∙ judged_fits t n e f h)) ∙ w)))
-      (short_or_fits t n e f)
+  module _ {n e f : List ℕ} {room : Answer} {o : Outcome} (says : room ≡ asked c n e f) (ok : room ≡ Ok o) where
+    room_fits : Fits x.tables n e f
+    room_fits = room_there x.tables n e f (room_is n e f says ∙ ok)
 
-  pub room_announced : {n e f : List ℕ} {room : Answer} → room ≡ asked c n e f → refuses room ≡ false
-      → Announced s at c n e f
-  room_announced {n} {e} {f} says w =
-      let o = x.accepted.lendable in
-      let fits : Fits x.tables n e f = room_fits says w in
-      record {
-        reached = head_within s c at head;
-        good = got_is _ x.got_rows;
-        nodes = omega (arith, o.nodes.whole, fits.nodes, ap (λ (d : Counts). d.nodes) x.counts);
-        edges = omega (arith, o.edges.whole, fits.edges, ap (λ (d : Counts). d.edges) x.counts);
-        refs = omega (arith, o.refs.whole, fits.refs, ap (λ (d : Counts). d.refs) x.counts);
-      }
+    pub room_announced : Announced s at c n e f
+    room_announced =
+        let o = x.accepted.lendable in
+        let fits : Fits x.tables n e f = room_fits in
+        record {
+          good = got_is _ x.got_rows;
+          nodes = omega (arith, o.nodes.whole, fits.nodes, ap (λ (d : Counts). d.nodes) x.counts);
+          edges = omega (arith, o.edges.whole, fits.edges, ap (λ (d : Counts). d.edges) x.counts);
+          refs = omega (arith, o.refs.whole, fits.refs, ap (λ (d : Counts). d.refs) x.counts);
+        }
 
-  -- the counts that the first lines tell are those of the tables
-  pub room_taken : {n e f n' e' f' : List ℕ} {room : Answer} → room ≡ asked c n e f → refuses room ≡ false
-      → Held (got_of no_tables (rows_at s c at)) n e f n' e' f'
-      → Read s n e f
-      (record { answer = room; start = c.start; nodes = c.nodes; edges = c.edges; refs = c.refs }) n' e' f'
-  room_taken {n} {e} {f} says w h₀ =
-      let t = x.tables in
-      let fits : Fits t n e f = room_fits says w in
-      let h = rw (got_of_lem no_tables _ x.got_rows) at h₀ in
-      rw (
-        room_is n e f says ∙ judged_fits t n e f fits,
-        h.nodes ∙ sets_front n t.nodes.numbers fits.nodes,
-        h.edges ∙ sets_front e t.edges.numbers fits.edges,
-        h.refs ∙ sets_front f t.refs.numbers fits.refs,
-      ) (subst (λ (d : Counts). Read s n e f
-      (record { answer = passed; start = d.start; nodes = d.nodes; edges = d.edges; refs = d.refs })
-      (front t.nodes.numbers n) (front t.edges.numbers e) (front t.refs.numbers f))
-      x.counts (took x.accepted fits))
+    -- the counts that the first lines tell are those of the tables
+    pub room_taken : {n' e' f' : List ℕ} → Held (got_of no_tables (rows_at s c at)) n e f n' e' f'
+        → Read s n e f (Ok c) n' e' f'
+    room_taken h₀ =
+        let t = x.tables in
+        let fits : Fits t n e f = room_fits in
+        let held = rw (got_of_lem no_tables _ x.got_rows) at h₀ in
+        rw (
+          held.nodes ∙ sets_front n t.nodes.numbers fits.nodes,
+          held.edges ∙ sets_front e t.edges.numbers fits.edges,
+          held.refs ∙ sets_front f t.refs.numbers fits.refs,
+        ) (subst (λ (d : Counts). Read s n e f (Ok d)
+        (front t.nodes.numbers n) (front t.edges.numbers e) (front t.refs.numbers f))
+        x.counts (took x.accepted fits))

@@ -1,20 +1,19 @@
 -- Room for what is read.
 --   Most         lent tables as long as the sizes allow; most_fits: they have room for all tables within the sizes
 --   front_long   what fills the front of a list is within it
---   read_fits    where read text did not refuse, each lent table is long enough for its rows
+--   read_fits    where read text does not refuse, each lent table is long enough for its rows
 -- Assumes nothing.
-use mathlib.Core.Bool.{false, false≢true}
 use mathlib.Core.List.{List}
-use mathlib.Core.Path.{◌≡◌, sym}
+use mathlib.Core.Path.{◌≡◌}
 use Prim.Native.Nat.{ℕ, ◌*◌, ◌≤◌}
 use native.Mathlib.Omega.{arith}
 use lib.ListN.{length, length-append, drop}
 use Rattle.ground.specs.Lists.{front}
-use Rattle.answers.specs.Numbers.{refuses}
 use Rattle.tables.specs.Tables.{node_width, edge_width, ref_width, Tables}
 use Rattle.tables.specs.Rules.{most_nodes, most_edges, most_refs, Sizes}
-use Rattle.text.specs.declared.read.TextReading.{TextReading}
-use Rattle.text.specs.Answers.{Fits, Read, wrong_text, no_room, took}
+use Rattle.std.specs.Prelude.{Ok}
+use Rattle.text.specs.declared.forms.Counts.{Counts}
+use Rattle.text.specs.Answers.{Fits, Read, took}
 
 pub record Most (n e f : List ℕ) : Type 0 where
   pub nodes : length n ≡ most_nodes * node_width
@@ -32,12 +31,9 @@ most_fits m s =
 pub front_long : (xs old : List ℕ) → length xs ≤ length (front xs old)
 front_long xs old = omega (arith, length-append xs (drop (length xs) old))
 
-pub read_fits : {s n e f : List ℕ} {r : TextReading} {n' e' f' : List ℕ} → Read s n e f r n' e' f'
-    → refuses r.answer ≡ false
-    → (r.nodes * node_width ≤ length n') × (r.edges * edge_width ≤ length e') × (r.refs * ref_width ≤ length f')
-read_fits (wrong_text x p) c = absurd (false≢true (sym c))
-read_fits (no_room a x) c = absurd (false≢true (sym c))
-read_fits {n = n} {e} {f} (took {t} a h) c = (
+pub read_fits : {s n e f : List ℕ} {c : Counts} {n' e' f' : List ℕ} → Read s n e f (Ok c) n' e' f'
+    → (c.nodes * node_width ≤ length n') × (c.edges * edge_width ≤ length e') × (c.refs * ref_width ≤ length f')
+read_fits {n = n} {e} {f} (took {t} a h) = (
   omega (arith, front_long t.nodes.numbers n),
   omega (arith, front_long t.edges.numbers e),
   omega (arith, front_long t.refs.numbers f),

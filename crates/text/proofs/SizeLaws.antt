@@ -15,7 +15,8 @@ use Rattle.lines.proofs.PlanLaws.{joined_append, joined_take}
 use Rattle.text.specs.declared.forms.Counts.{Counts}
 use Rattle.text.specs.Text.{Lendable, text_lines, text_of}
 use Rattle.text.specs.Forms.{edition, edition_key, start_key, nodes_key, edges_key, refs_key, node_key, edge_key, ref_key}
-use Rattle.text.specs.Forms.{node_form, edge_form, ref_form, counts_of, head_lines, row_lines}
+use Rattle.text.specs.Forms.{node_form, edge_form, ref_form, head_lines, row_lines}
+use Rattle.text.specs.Answers.{counts_of}
 use Rattle.text.specs.Reads.{read_text}
 use Rattle.text.specs.Sizes.{head_bytes, row_bytes, most_text}
 use Rattle.text.proofs.TieLaws.{text_plan_lem, sizes_of}

@@ -16,7 +16,8 @@ use Rattle.lines.specs.Plans.{plan_then, LaysOut}
 use Rattle.text.specs.declared.forms.Counts.{Counts}
 use Rattle.text.specs.Text.{Small, LendableTable, Lendable, text_lines}
 use Rattle.text.specs.Forms.{edition, edition_key, start_key, nodes_key, edges_key, refs_key, node_key, edge_key, ref_key}
-use Rattle.text.specs.Forms.{node_form, edge_form, ref_form, counts_of, row_lines, plan_lines}
+use Rattle.text.specs.Forms.{node_form, edge_form, ref_form, row_lines, plan_lines}
+use Rattle.text.specs.Answers.{counts_of}
 use Rattle.text.specs.Reads.{only, head_plan, rows_plan, text_plan}
 use Rattle.text.proofs.TieLaws.{text_plan_lem, sizes_of}
 

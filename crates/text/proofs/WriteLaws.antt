@@ -10,8 +10,8 @@ use Rattle.ground.specs.Stores.{Put}
 use Rattle.ground.specs.Lists.{joined}
 use Rattle.ground.proofs.ListLaws.{sets_front, put_append}
 use Rattle.ground.proofs.TestLaws.{by_test}
-use Rattle.answers.specs.declared.Answer.{Answer}
-use Rattle.answers.specs.declared.Answer.TheVariants.{Done, Size, TextRoom}
+use Rattle.answers.specs.Answers.{Answer}
+use Rattle.answers.specs.Answers.{Done, Size, TextRoom}
 use Rattle.answers.specs.Numbers.{refuses}
 use Rattle.tables.specs.Tables.{Table, Tables}
 use Rattle.tables.specs.Rules.{Sizes, Gives}
@@ -21,7 +21,8 @@ use Rattle.tables.proofs.GivesLaws.{gives_says, sizes_pass, sizes_refuse}
 use Rattle.lines.specs.Lines.{one_line}
 use Rattle.text.specs.declared.forms.Counts.{Counts}
 use Rattle.text.specs.Forms.{edition, edition_key, start_key, nodes_key, edges_key, refs_key, node_key, edge_key, ref_key}
-use Rattle.text.specs.Forms.{node_form, edge_form, ref_form, counts_of, head_lines, row_lines}
+use Rattle.text.specs.Forms.{node_form, edge_form, ref_form, head_lines, row_lines}
+use Rattle.text.specs.Answers.{counts_of}
 use Rattle.text.specs.Text.{text_of}
 use Rattle.text.specs.Sizes.{Measured, TablesFit, RowsFit, head_bytes, row_bytes, most_head, most_row_bytes}
 use Rattle.text.specs.Answers.{Written, out_of_size, short, wrote}

@@ -1,12 +1,12 @@
 -- What the calls write text and read text promise. Assumes nothing.
-use Rattle.std.specs.Prelude.{List, [], ◌≡◌, ℕ, ◌≤◌, ◌<◌, length, take}
+use Rattle.std.specs.Prelude.{List, [], ◌≡◌, ℕ, ◌≤◌, ◌<◌, length, take, Result, Ok, Err}
 use Rattle.ground.specs.Lists.{joined, front, Stands}
-use Rattle.answers.specs.declared.Answer.{Answer}
-use Rattle.answers.specs.declared.Answer.TheVariants.{Done, Size, Room, Text, TextRoom}
-use Rattle.answers.specs.Numbers.{passed}
+use Rattle.answers.specs.declared.Refusal.{Refusal}
+use Rattle.answers.specs.declared.Refusal.TheVariants.{Room, Text}
+use Rattle.answers.specs.Answers.{Answer, Done, Size, TextRoom}
 use Rattle.tables.specs.Tables.{Tables, lent}
 use Rattle.tables.specs.Rules.{Sizes, Gives}
-use Rattle.text.specs.declared.read.TextReading.{TextReading}
+use Rattle.text.specs.declared.forms.Counts.{Counts}
 use Rattle.text.specs.Text.{Lendable, text_lines, text_of}
 
 -- [01:What the calls answer] Write text "judges table sizes only: 1, then 32. Otherwise place is the byte count, and
@@ -40,13 +40,14 @@ pub record FirstWrong (s : List ℕ) (p : ℕ) : Type 0 where
   pub reached : (t : Tables) × (j : ℕ) × Lendable t × Stands s 0 (first_lines j t) p
   pub furthest : (t : Tables) (j n : ℕ) → Lendable t → Stands s 0 (first_lines j t) n → n ≤ p
 
--- [01:What the calls answer] "the answer also carries start and three counts, which are 0 on refusal"
+-- [01:What the calls answer] "which are 0 on refusal"
 abbrev pub no_tables : Tables
 no_tables = lent 0 [] 0 [] 0 [] 0
 
-abbrev pub reading_of : Answer → Tables → TextReading
-reading_of a t =
-    record { answer = a; start = t.start; nodes = t.nodes.count; edges = t.edges.count; refs = t.refs.count }
+-- [01:What the calls answer] "the answer also carries start and three counts"
+abbrev pub counts_of : Tables → Counts
+counts_of t =
+    record { start = t.start; nodes = t.nodes.count; edges = t.edges.count; refs = t.refs.count }
 
 -- [01:What the calls answer] "21 (place 0, 1, 2: first table too short)"
 module _ (t : Tables) (n e f : List ℕ) where
@@ -63,12 +64,11 @@ module _ (t : Tables) (n e f : List ℕ) where
 
 -- [01:What the calls answer] "Read text: 31, then 21 (place 0, 1, 2: first table too short). Otherwise the rows fill
 -- the front of each table, the rest unchanged, and the answer also carries start and three counts, which are 0 on
--- refusal."; "No refusal writes to a lent table or buffer." A text of the form has a `FirstWrong` too, its length, so
--- TEXT asks for both.
-pub data Read (s n e f : List ℕ) : TextReading → List ℕ → List ℕ → List ℕ → Type 0 where
-  wrong_text : {p : ℕ} → NotOfForm s → FirstWrong s p → Read s n e f (reading_of (Text p) no_tables) n e f
-  no_room : {t : Tables} {k : ℕ} → Accepted s t → TooShort t n e f k
-      → Read s n e f (reading_of (Room 0 k) no_tables) n e f
+-- refusal": a refusal carries none here. "No refusal writes to a lent table or buffer." A text of the form has a
+-- `FirstWrong` too, its length, so TEXT asks for both.
+pub data Read (s n e f : List ℕ) : Result Counts Refusal → List ℕ → List ℕ → List ℕ → Type 0 where
+  wrong_text : {p : ℕ} → NotOfForm s → FirstWrong s p → Read s n e f (Err (Text p)) n e f
+  no_room : {t : Tables} {k : ℕ} → Accepted s t → TooShort t n e f k → Read s n e f (Err (Room 0 k)) n e f
   took : {t : Tables} → Accepted s t → Fits t n e f
-      → Read s n e f (reading_of passed t) (front t.nodes.numbers n) (front t.edges.numbers e)
+      → Read s n e f (Ok (counts_of t)) (front t.nodes.numbers n) (front t.edges.numbers e)
       (front t.refs.numbers f)

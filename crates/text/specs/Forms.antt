@@ -4,7 +4,7 @@
 --   edition_key, start_key, nodes_key, edges_key, refs_key   the keys of the first five lines
 --   node_key, edge_key, ref_key                            the keys of the rows
 --   node_form, edge_form, ref_form                         the forms of the rows
---   counts_of           what the first five lines say of tables; counted: the tables of which they say it
+--   counted             the tables of which the first five lines say it
 --   head_lines          the first five lines; row_lines: the lines of the rows; plan_lines: all of them
 -- Assumes nothing.
 use Rattle.std.specs.Prelude.{true, false, List, [], ◌∷◌, ◌++◌, ℕ}
@@ -13,6 +13,7 @@ use Rattle.tables.specs.Tables.{node_width, edge_width, ref_width, Tables, lent}
 use Rattle.lines.specs.declared.form.Form.{Form}
 use Rattle.lines.specs.Lines.{row_form, one_line, lines_of}
 use Rattle.text.specs.declared.forms.Counts.{Counts}
+use Rattle.text.specs.Answers.{counts_of}
 
 -- [01:The text] "Lines `key=value` .. in this order: `edition=1`, `start=`, `nodes=`, `edges=`, `refs=`, then all
 -- `node=` lines, `edge=` lines, `ref=` lines, as many as counted."
@@ -52,10 +53,6 @@ edge_form = row_form edge_width true
 
 abbrev pub ref_form : Form
 ref_form = row_form ref_width true
-
-abbrev pub counts_of : Tables → Counts
-counts_of t =
-    record { start = t.start; nodes = t.nodes.count; edges = t.edges.count; refs = t.refs.count }
 
 abbrev pub counted : Counts → List ℕ → List ℕ → List ℕ → Tables
 counted c ns es rs = lent c.start ns c.nodes es c.edges rs c.refs

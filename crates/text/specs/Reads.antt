@@ -6,31 +6,25 @@
 --   whole s r            what was read, if it is all of s; end_at: the same of a reader that keeps no numbers
 --   read_text s           the tables that the text s holds, or the place of the first line that is not what must stand
 --                        there
---   value_of              the number that was read, or 0
 --   head_of               what the reader of the first five lines answers
+--   Headed, Scanned      the text's first lines were read and its rows found right, or it is refused
 --   short_says            ROOM, for tables with room for n, e and f numbers where a, b and c are needed
 --   Announced            the rows that were counted stand there, and have room in n, e and f
 --   Held                 the tables n, e, f after those of t were stored at their fronts
 -- Assumes nothing.
-use Rattle.std.specs.Prelude.{true, cond, List, ◌≡◌, ℕ, ◌≤◌, eqb, ltb, length, get_or}
+use Rattle.std.specs.Prelude.{true, cond, List, ◌≡◌, ℕ, eqb, ltb, length, get_or, Result, Ok, Err, MatchResult}
 use Rattle.std.proofs.lemmas.List.Edits.{sets}
-use Rattle.answers.specs.declared.Answer.{Answer}
-use Rattle.answers.specs.declared.Answer.TheVariants.{Room}
+use Rattle.answers.specs.Answers.{Answer, Room}
 use Rattle.answers.specs.Refusals.{when, ◌⨾◌}
 use Rattle.tables.specs.Tables.{Now, Tables}
 use Rattle.tables.specs.Rows.{HasNodes, HasEdges, HasRefs}
 use Rattle.tables.specs.Rules.{least_nodes, most_nodes, most_edges, most_refs}
-use Rattle.decimals.specs.declared.Num.{Num}
-use Rattle.decimals.specs.declared.Num.TheVariants.{Is, Missing}
+use Rattle.decimals.specs.declared.Wrong.{Wrong}
 use Rattle.lines.specs.declared.form.Form.{Form}
 use Rattle.lines.specs.Lines.{one_form_of}
 use Rattle.lines.specs.Reads.{Got, got, wrong, and_then, is_got}
 use Rattle.lines.specs.Plans.{Plan, stop, lines, plan_then, plan_at}
-use Rattle.lines.specs.declared.read.Ended.{Ended}
-use Rattle.lines.specs.declared.read.Ended.TheVariants.{At, Wrong}
 use Rattle.text.specs.declared.forms.Counts.{Counts}
-use Rattle.text.specs.declared.read.Head.{Head}
-use Rattle.text.specs.declared.read.Head.TheVariants.{Counted, Misplaced}
 use Rattle.text.specs.Forms.{counted, edition, edition_key, start_key, nodes_key, edges_key, refs_key, node_key}
 use Rattle.text.specs.Forms.{edge_key, ref_key, node_form, edge_form, ref_form}
 
@@ -77,26 +71,29 @@ text_plan = plan_then head_plan rows_plan
 abbrev pub whole : {A : Type 0} → List ℕ → Got A → Got A
 whole s r = and_then r (λ a n. cond (eqb n (length s)) (got a n) (wrong n))
 
-abbrev pub end_at : List ℕ → ℕ → Ended
-end_at s n = cond (eqb n (length s)) (At n) (Wrong n)
+abbrev pub end_at : List ℕ → ℕ → Result ℕ Wrong
+end_at s n = cond (eqb n (length s)) (Ok n) (Err (record { at = n }))
 
 unfoldable pub read_text : List ℕ → Got Tables
 read_text s = whole s (plan_at text_plan s 0)
 
-unfoldable pub head_of : Got Counts → Head
-head_of (got c n) = Counted c n
-head_of (wrong p) = Misplaced p
+unfoldable pub head_of : Got Counts → Result (Counts × ℕ) Wrong
+head_of (got c n) = Ok (c, n)
+head_of (wrong p) = Err (record { at = p })
 
-abbrev pub value_of : Num → ℕ
-value_of (Is v n) = v
-value_of (Missing p) = 0
+-- the first lines say c and end at place at; the rows that they announce stand there, and nothing after them
+pub record Headed (s : List ℕ) (c : Counts) (at : ℕ) : Type 0 where
+  pub head : plan_at head_plan s 0 ≡ got c at
+  pub rows : is_got (whole s (plan_at (rows_plan c) s at)) ≡ true
+
+abbrev pub Scanned : List ℕ → Result (Counts × ℕ) Wrong → Type 0
+Scanned s r = MatchResult r (λ h. Headed s h.0 h.1) (λ e. read_text s ≡ wrong e.at)
 
 -- [01:What the calls answer] "21 (place 0, 1, 2: first table too short)"
 unfoldable pub short_says : ℕ → ℕ → ℕ → ℕ → ℕ → ℕ → Answer
 short_says a b c n e f = when (ltb n a) (Room 0 0) ⨾ when (ltb e b) (Room 0 1) ⨾ when (ltb f c) (Room 0 2)
 
 pub record Announced (s : List ℕ) (at : ℕ) (c : Counts) (n e f : List ℕ) : Type 0 where
-  pub reached : at ≤ length s
   pub good : is_got (plan_at (rows_plan c) s at) ≡ true
   pub nodes : HasNodes n c.nodes
   pub edges : HasEdges e c.edges

@@ -1,18 +1,31 @@
 // Write text. The bytes are counted before any is written.
-ghost use Rattle.std.specs.Prelude.{◌≤◌, length};
-ghost use Rattle.tables.specs.Tables.{lent};
+ghost use Rattle.std.specs.Prelude.{◌≡◌, ◌≤◌, length};
 ghost use Rattle.ground.specs.Stores.{Put};
 ghost use Rattle.ground.specs.Lists.{joined};
-ghost use Rattle.text.specs.Forms.{head_lines, row_lines, counted};
+ghost use Rattle.text.specs.Forms.{head_lines, row_lines};
 ghost use Rattle.text.specs.Sizes.{Measured, TablesFit, RowsFit, head_bytes, row_bytes, most_head, most_row_bytes};
-ghost use Rattle.text.specs.Answers.{Written};
+ghost use Rattle.text.specs.Answers.{counts_of, Written};
 
-use super::forms::{Counts, EDGE_FORM, EDITION, NODE_FORM, REF_FORM};
-use answers::Answer;
+use super::forms::{Counts, EDGE_LINE, EDITION, NODE_LINE, REF_LINE};
+use answers::{Answer, Outcome, Refusal};
 use lines::write::{lines_len, one_len, write_lines, write_one};
+use tables::lent::Tables;
 use tables::sizes::judge_sizes;
 
-// How many bytes the first five lines have.
+// What the first five lines say.
+fn counts(tables: &Tables<'_>) -> Counts
+    requires { TablesFit tables.now }
+    ensures { result ≡ counts_of tables.now }
+{
+    Counts {
+        start: tables.start,
+        nodes: tables.nodes.len() as u32,
+        edges: tables.edges.len() as u32,
+        refs: tables.refs.len() as u32,
+    }
+}
+
+// How many bytes the first five lines have: a list of them would be no plainer, as in `read_head`.
 fn head_len(c: Counts) -> usize
     ensures { Measured (head_bytes c) most_head result }
 {
@@ -25,18 +38,17 @@ fn head_len(c: Counts) -> usize
 }
 
 // How many bytes the rows have.
-fn rows_len(c: Counts, nodes: &[u32], edges: &[u32], refs: &[u32]) -> usize
-    requires { TablesFit (counted c nodes.now edges.now refs.now) }
-    ensures { Measured (row_bytes (counted c nodes.now edges.now refs.now))
-        most_row_bytes result }
+fn rows_len(tables: &Tables<'_>) -> usize
+    requires { TablesFit tables.now }
+    ensures { Measured (row_bytes tables.now) most_row_bytes result }
 {
-    let n = lines_len(b"node=", NODE_FORM, nodes, c.nodes);
-    let m = lines_len(b"edge=", EDGE_FORM, edges, c.edges);
-    let k = lines_len(b"ref=", REF_FORM, refs, c.refs);
+    let n = lines_len(&NODE_LINE, &tables.nodes);
+    let m = lines_len(&EDGE_LINE, &tables.edges);
+    let k = lines_len(&REF_LINE, &tables.refs);
     n + m + k
 }
 
-// Puts the first five lines at the front.
+// Puts the first five lines at the front, one by one as in `read_head`.
 fn write_head(out: &mut [u8], c: Counts) -> usize
     requires { head_bytes c ≤ length out.old }
     ensures { Put out.old 0 (joined (head_lines c)) out.new result }
@@ -49,56 +61,27 @@ fn write_head(out: &mut [u8], c: Counts) -> usize
 }
 
 // Puts the rows at place at.
-fn write_rows(
-    out: &mut [u8],
-    at: usize,
-    c: Counts,
-    nodes: &[u32],
-    edges: &[u32],
-    refs: &[u32],
-) -> usize
-    requires { RowsFit (counted c nodes.now edges.now refs.now) at out.old }
-    ensures { Put out.old at
-        (joined (row_lines (counted c nodes.now edges.now refs.now)))
-        out.new result }
+fn write_rows(out: &mut [u8], at: usize, tables: &Tables<'_>) -> usize
+    requires { RowsFit tables.now at out.old }
+    ensures { Put out.old at (joined (row_lines tables.now)) out.new result }
 {
-    let n = write_lines(out, at, b"node=", NODE_FORM, nodes, c.nodes);
-    let m = write_lines(out, n, b"edge=", EDGE_FORM, edges, c.edges);
-    write_lines(out, m, b"ref=", REF_FORM, refs, c.refs)
+    let n = write_lines(out, at, &NODE_LINE, &tables.nodes);
+    let m = write_lines(out, n, &EDGE_LINE, &tables.edges);
+    write_lines(out, m, &REF_LINE, &tables.refs)
 }
 
-pub fn write_text(
-    start: u32,
-    nodes: &[u32],
-    n: usize,
-    edges: &[u32],
-    m: usize,
-    refs: &[u32],
-    k: usize,
-    out: &mut [u8],
-) -> Answer
-    ensures { Written (lent start nodes.now n edges.now m refs.now k)
-        out.old result out.new }
+pub fn write_text(tables: &Tables<'_>, out: &mut [u8]) -> Answer
+    ensures { Written tables.now out.old result out.new }
 {
-    let sizes = judge_sizes(nodes, n, edges, m, refs, k);
-    if sizes.refuses() {
-        return sizes;
-    }
-    let node_count = n as u32;
-    let edge_count = m as u32;
-    let ref_count = k as u32;
-    let c = Counts {
-        start,
-        nodes: node_count,
-        edges: edge_count,
-        refs: ref_count,
-    };
-    let bytes = head_len(c) + rows_len(c, nodes, edges, refs);
+    judge_sizes(tables)?;
+    let c = counts(tables);
+    let bytes = head_len(c) + rows_len(tables);
     let place = bytes as u32;
     if out.len() < bytes {
-        return Answer::TextRoom(place);
+        return Err(Refusal::TextRoom(place));
     }
     let at = write_head(out, c);
-    write_rows(out, at, c, nodes, edges, refs);
-    Answer::Done(0, place)
+    write_rows(out, at, tables);
+    let done = Outcome { instant: 0, place };
+    Ok(done)
 }

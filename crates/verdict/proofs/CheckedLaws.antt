@@ -1,14 +1,18 @@
 -- Two answers that check allows coincide, and it allows the computed one. Assumes nothing.
-use mathlib.Core.Path.{◌≡◌, sym, ap, ◌∙◌, subst}
-use mathlib.Core.Bool.{true, false, false≢true}
+use mathlib.Core.Path.{◌≡◌, refl, sym, ap, ◌∙◌, subst}
+use mathlib.Core.Bool.{true, false≢true}
 use Rattle.ground.proofs.TestLaws.{by_test}
-use Rattle.answers.specs.declared.Answer.{Answer}
+use Rattle.std.specs.Prelude.{Ok, Err}
+use Rattle.answers.specs.declared.Refusal.{Refusal}
+use Rattle.answers.specs.Answers.{Answer}
 use Rattle.answers.specs.Numbers.{refuses}
 use Rattle.tables.specs.Tables.{Tables}
 use Rattle.tables.specs.Says.{history_says}
 use Rattle.tables.specs.Rules.{Obeys, Gives}
 use Rattle.tables.proofs.GivesLaws.{gives_is, gives_says, obeys_tells}
 use Rattle.history.specs.Faults.{held, Verdict}
+use Rattle.history.specs.Taken.{held_in, Taken}
+use Rattle.history.specs.declared.ruled.History.{History}
 use Rattle.history.proofs.RuledLaws.{obeys_ruled}
 use Rattle.history.proofs.VerdictLaws.{verdict_unique}
 use Rattle.history.proofs.ExistsLaws.{verdict_exists}
@@ -16,13 +20,12 @@ use Rattle.verdict.specs.Checked.{Checked, ruled_out, judged}
 use Rattle.verdict.specs.Says.{check_says}
 
 module _ (L : Tables) where
-  -- by the answer of the rules
-  module _ {a : Answer} (e : a ≡ history_says L) where
-    pub on_rules : refuses a ≡ true → Checked L a
-    on_rules t = ruled_out (subst (Gives L) (sym e) (gives_says L)) t
+  -- what the rules refuse, and what they pass over
+  pub on_refused : {e : Refusal} → history_says L ≡ Err e → Checked L (Err e)
+  on_refused q = ruled_out (subst (Gives L) q (gives_says L)) refl
 
-    pub on_obeyed : refuses a ≡ false → Obeys L
-    on_obeyed f = (obeys_tells L).0 (rw e at f)
+  pub on_taken : (h : History) {a : Answer} → Taken L (Ok h) → Verdict (held_in h) a → Checked L a
+  on_taken h taken v = judged taken.0 (rw taken.1 at v)
 
   -- tables that a rule refuses do not obey the rules
   not_both : {a : Answer} → Gives L a → refuses a ≡ true → Obeys L → ⊥

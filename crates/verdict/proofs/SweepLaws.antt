@@ -1,13 +1,14 @@
 -- One turn of the sweep: a faultless instant is faultless up to the next change, and what the sweep answers where it
 -- stops. Assumes nothing.
-use mathlib.Core.Path.{◌≡◌, sym, ◌∙◌, subst}
+use mathlib.Core.Path.{◌≡◌, sym, ap, subst}
 use mathlib.Core.Bool.{true, false, false≢true}
 use Prim.Native.Nat.{ℕ, ◌+◌, ◌≤◌, ◌<◌}
 use native.Mathlib.Decide.{dec_le}
 use native.Mathlib.Omega.{arith}
-use Rattle.answers.specs.declared.Answer.{Answer}
+use Rattle.std.specs.Prelude.{Ok}
+use Rattle.answers.specs.declared.Outcome.{Outcome}
+use Rattle.answers.specs.Answers.{Answer}
 use Rattle.answers.specs.Numbers.{refuses, passed}
-use Rattle.answers.proofs.AnswerLaws.{faulty_refuses}
 use Rattle.tables.specs.Tables.{Now}
 use Rattle.history.specs.Faults.{History, Holds, Faultless, Verdict, accepted, refused}
 use Rattle.history.specs.Ruled.{Ruled}
@@ -37,17 +38,17 @@ module _ (H : History) {t : ℕ} {a : Answer} (e : a ≡ faults_say H t) (r : Ru
       at (first x) f = refused (record { instant = w.instant; fault = x; earliest = w.clean })
 
   -- one that does not shows that there is no fault at t, and so none up to the next change
-  module _ (f : refuses a ≡ false) {u : ℕ} (until : Until H t u) where
+  module _ {done : Outcome} (f : a ≡ Ok done) {u : ℕ} (until : Until H t u) where
     clean : {a : Answer} → Names (Holds H t) t a → refuses a ≡ false → Faultless H t
     clean (none n) f = n
-    clean (first {f = g} x) f = absurd (false≢true (sym f ∙ faulty_refuses t g))
+    clean (first {f = g} x) f = absurd (false≢true (sym f))
 
     calm : (s : ℕ) → s ≤ u → Faultless H s
     calm s h = go (dec_le t s)
       where
         go : Dec (t ≤ s) → Faultless H s
         go (yes l) g x =
-            clean named f g
+            clean named (ap (λ a. refuses a) f) g
             (fault_back H t s (omega (arith, until.instant)) l (λ c a b. until_calm H t until c a (omega arith)) g x)
         go (no l) g x = w.clean s (omega arith) g x
 

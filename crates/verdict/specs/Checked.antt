@@ -1,6 +1,6 @@
 -- What check answers. Assumes nothing.
 use Rattle.std.specs.Prelude.{◌≡◌, true}
-use Rattle.answers.specs.declared.Answer.{Answer}
+use Rattle.answers.specs.Answers.{Answer}
 use Rattle.answers.specs.Numbers.{refuses}
 use Rattle.tables.specs.Tables.{Tables}
 use Rattle.tables.specs.Rules.{Obeys, Gives}

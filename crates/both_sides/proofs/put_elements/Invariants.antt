@@ -1,10 +1,9 @@
-use Prim.Native.Nat.{◌≤◌, ◌-◌}
-use lib.ListN.{length}
-use Rattle.both_sides.proofs.CaseLaws.{ElementsPut}
+use mathlib.Core.Path.{◌≡◌}
+use Prim.Native.Nat.{ℕ, ◌<◌}
+use lib.ListN.{get_or}
+use Rattle.both_sides.specs.Cases.{elements}
 use Rattle.both_sides.proofs.put_elements.Given as goal
 
+-- before turn i each number below i is an element's
 abbrev pub invariant-loop-i : goal.invariant-loop-i
-invariant-loop-i l = (l.i ≤ length l.initial.nodes) × ElementsPut l.initial.nodes l.nodes l.i
-
-abbrev pub decreases-loop-i : goal.decreases-loop-i
-decreases-loop-i l = length l.initial.nodes - l.i
+invariant-loop-i l = (k : ℕ) → k < l.i → get_or l.nodes k 0 ≡ elements k

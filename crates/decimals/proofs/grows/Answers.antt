@@ -1,15 +1,13 @@
-use borrow.Author.Tests.{lt-ltb, le-ltb}
-use Rattle.decimals.specs.Reads.{grows}
+use mathlib.Core.Path.{◌∙◌}
+use Rattle.decimals.proofs.ReadLaws.{grows_digit, grows_not}
 use Rattle.decimals.proofs.grows.Goals as goal
 
-pub returns-then-c-lt48 : goal.returns-then-c-lt48
-unfolding grows
-returns-then-c-lt48 c = simp (lt-ltb _ _ c.if-c-lt48.true)
+pub returns-then-is_ascii_digit : goal.returns-then-is_ascii_digit
+returns-then-is_ascii_digit c =
+    rw (c.from.ensures, c.from-then-is_ascii_digit.ensures, c.from-then-is_ascii_digit-2.ensures)
+    (grows_digit c.args.hi c.args.v c.args.c c.if-is_ascii_digit.ensures.cases)
 
-pub returns-then-c-gt57 : goal.returns-then-c-gt57
-unfolding grows
-returns-then-c-gt57 c = simp (le-ltb _ _ c.if-c-lt48.false, lt-ltb _ _ c.if-c-gt57.true)
-
-pub returns : goal.returns
-unfolding grows
-returns c = simp (le-ltb _ _ c.if-c-lt48.false, le-ltb _ _ c.if-c-gt57.false, c.wide.ensures)
+pub returns-else-is_ascii_digit : goal.returns-else-is_ascii_digit
+returns-else-is_ascii_digit c =
+    c.if-is_ascii_digit.false
+    ∙ grows_not c.args.hi c.args.v c.args.c c.if-is_ascii_digit.ensures.cases

@@ -1,13 +1,16 @@
 use mathlib.Core.Path.{sym, ◌∙◌}
 use native.Mathlib.Omega.{arith}
+use borrow.Author.Tests.{ltb-false}
 use Rattle.decimals.proofs.ReadLaws.{Grows, grows_true, num_end, num_zero, num_more, num_missing}
 use Rattle.decimals.proofs.read_decimal.Goals as goal
 
-pub returns-then-text-at : goal.returns-then-text-at
-returns-then-text-at c = sym (num_end _ _ _ c.if-text-at.true)
+pub returns-in_default : goal.returns-in_default
+returns-in_default c = sym (num_end _ _ _ (ltb-false _ _ (sym c.in_default.ensures.lookup.0)))
 
 pub returns-then-c-eq48 : goal.returns-then-c-eq48
-returns-then-c-eq48 c = sym (num_zero _ _ _ (omega arith) c.if-c-eq48.true)
+returns-then-c-eq48 c =
+    let (_, _, _, (some, byte), _) = c.in-Some.ensures.lookup in
+    sym (num_zero _ _ _ some (sym (byte 0) ∙ c.if-c-eq48.true))
 
 pub overflow_sub-c : goal.overflow_sub-c
 overflow_sub-c c = (grows_true _ _ _ (sym c.grows.ensures ∙ c.if-grows.true)).low
@@ -18,11 +21,13 @@ read_more-requires c =
 
 pub returns-then-grows : goal.returns-then-grows
 returns-then-grows c =
+    let (_, _, _, (some, byte), _) = c.in-Some.ensures.lookup in
     c.read_more.ensures
-    ∙ sym (num_more _ _ _ (omega arith) c.if-c-eq48.false
-    (sym c.grows.ensures ∙ c.if-grows.true))
+    ∙ rw (c.from.ensures, byte 0) (sym (num_more _ _ _ some (rw (byte 0) at c.if-c-eq48.false)
+    (rw (byte 0) at (sym c.grows.ensures ∙ c.if-grows.true))))
 
 pub returns-else-grows : goal.returns-else-grows
 returns-else-grows c =
-    sym (num_missing _ _ _ (omega arith) c.if-c-eq48.false
-    (sym c.grows.ensures ∙ c.if-grows.false))
+    let (_, _, _, (some, byte), _) = c.in-Some.ensures.lookup in
+    sym (num_missing _ _ _ some (rw (byte 0) at c.if-c-eq48.false)
+    (rw (byte 0) at (sym c.grows.ensures ∙ c.if-grows.false)))

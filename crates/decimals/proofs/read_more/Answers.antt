@@ -1,24 +1,28 @@
-use mathlib.Core.Path.{sym, ◌∙◌}
+use mathlib.Core.Path.{◌≡◌, sym, ◌∙◌}
 use native.Mathlib.Omega.{arith}
 use Rattle.decimals.proofs.ReadLaws.{Grows, grows_true, more_turn, more_stop, more_end}
 use Rattle.decimals.proofs.read_more.Goals as goal
 
-pub overflow_mul-v : goal.overflow_mul-v
-overflow_mul-v c =
-    let digit : Grows _ _ _ = grows_true _ _ _ (sym c.grows.ensures ∙ c.if-grows.true) in omega arith
+pub returns-then-not-grows : goal.returns-then-not-grows
+returns-then-not-grows c = more_stop c.loop-after.invariant.0 (omega arith) (sym c.grows.ensures ∙ c.if-not-grows.true)
 
-pub overflow_sub-v : goal.overflow_sub-v
-overflow_sub-v c = (grows_true _ _ _ (sym c.grows.ensures ∙ c.if-grows.true)).low
+pub overflow_mul-value : goal.overflow_mul-value
+overflow_mul-value c =
+    let digit : Grows _ _ _ = grows_true _ _ _ (sym c.grows.ensures ∙ c.if-not-grows.false) in omega arith
 
-pub overflow_add-v : goal.overflow_add-v
-overflow_add-v c =
-    let digit : Grows _ _ _ = grows_true _ _ _ (sym c.grows.ensures ∙ c.if-grows.true) in omega arith
+pub overflow_sub-c : goal.overflow_sub-c
+overflow_sub-c c = (grows_true _ _ _ (sym c.grows.ensures ∙ c.if-not-grows.false)).low
 
-pub loop-i-preserved : goal.loop-i-preserved
-loop-i-preserved c = more_turn c.loop-i.invariant (omega arith) (sym c.grows.ensures ∙ c.if-grows.true)
+pub overflow_add-value : goal.overflow_add-value
+overflow_add-value c =
+    let digit : Grows _ _ _ = grows_true _ _ _ (sym c.grows.ensures ∙ c.if-not-grows.false) in omega arith
 
-pub returns-else-grows : goal.returns-else-grows
-returns-else-grows c = more_stop c.loop-i.invariant (omega arith) (sym c.grows.ensures ∙ c.if-grows.false)
+pub loop-after-preserved : goal.loop-after-preserved
+loop-after-preserved c =
+    let read = more_turn c.loop-after.invariant.0 (omega arith) (sym c.grows.ensures ∙ c.if-not-grows.false) in
+    (rw c.from.ensures read, omega arith)
 
 pub returns : goal.returns
-returns c = more_end c.loop-i.invariant (omega arith)
+returns c =
+    let q : c.max.result ≡ c.loop-after.after = omega (arith, c.max.ensures, c.loop-after.invariant.1) in
+    rw q (more_end c.loop-after.invariant.0 (omega arith))

@@ -1,52 +1,27 @@
+use borrow.Author.Rules.{rules}
 use native.Mathlib.Omega.{arith}
-use mathlib.Core.Path.{◌≡◌, refl, sym, ap, ◌∙◌}
-use mathlib.Core.Bool.{Bool, false}
-use Rattle.answers.specs.declared.Answer.{Answer}
-use Rattle.answers.specs.Numbers.{refuses}
-use Rattle.tables.specs.Tables.{Tables, lent}
-use Rattle.tables.specs.Rules.{Obeys}
-use Rattle.tables.specs.Says.{history_says}
-use Rattle.tables.proofs.GivesLaws.{obeys_tells}
-use Rattle.history.proofs.RuledLaws.{obeys_ruled, obeys_lent}
-use Rattle.snapshot.specs.Snapshot.{early}
-use Rattle.snapshot.specs.Readied.{refused}
-use Rattle.snapshot.proofs.ReadyLaws.{rules_readiness, readied_refused, readied_shown}
+use Rattle.snapshot.proofs.ReadyLaws.{rules_refuse, too_early, judge_refuses, judge_shows}
 use Rattle.snapshot.proofs.ready.Goals as goal
 
--- tables whose rules refuse nothing obey them
-obeyed : (t : Tables) {a : Answer} {b : Bool} → a ≡ history_says t → b ≡ refuses a → b ≡ false → Obeys t
-obeyed t e r f = (obeys_tells t).0 (ap refuses (sym e) ∙ sym r ∙ f)
+pub returns-in_err-history : goal.returns-in_err-history
+returns-in_err-history c =
+    let refusal = rules_refuse c.args.tables.now c.args.t (c.in_err-history.ensures {u = tt}) in
+    search (rules, refusal)
 
-pub returns-then-refuses : goal.returns-then-refuses
-returns-then-refuses c =
-    let refusal = sym c.refuses.ensures ∙ c.if-refuses.true in
-    readied_refused _ c.args.t (rules_readiness _ c.args.t c.judge_history-rules.ensures refusal) refusal
+pub returns-then-t-history : goal.returns-then-t-history
+returns-then-t-history c = too_early _ _ c.in_ok-history.history (c.in_ok-history.ensures {u = tt}) c.if-t-history.true
 
-pub returns-then-t-start : goal.returns-then-t-start
-returns-then-t-start c =
-    let t = lent c.args.start c.args.nodes.now c.args.n c.args.edges.now c.args.m c.args.refs.now c.args.k in
-    let o = obeyed t c.judge_history-rules.ensures c.refuses.ensures c.if-refuses.false in
-    readied_refused t c.args.t (refused (early o c.if-t-start.true)) refl
-
-pub judge_shown-requires : goal.judge_shown-requires
-judge_shown-requires c =
-    let t = lent c.args.start c.args.nodes.now c.args.n c.args.edges.now c.args.m c.args.refs.now c.args.k in
-    let o = obeyed t c.judge_history-rules.ensures c.refuses.ensures c.if-refuses.false in
-    let l = obeys_lent t o in
-    record {
-      lent_rows = l;
-      fresh =
-          record {
-            long = omega (arith, l.ruled.few_nodes, c.requires.long);
-            few = c.requires.few;
-            blank = c.requires.blank;
-          };
-    }
+pub returns-in_err-judge_shown : goal.returns-in_err-judge_shown
+returns-in_err-judge_shown c =
+    let h = c.in_ok-history.history in
+    let refusal =
+    judge_refuses c.args.tables.now c.args.t h (c.in_ok-history.ensures {u = tt}) c.if-t-history.false _
+    (c.in_err-judge_shown.ensures {u = tt}) in
+    search (rules, refusal)
 
 pub returns : goal.returns
 returns c =
-    let t = lent c.args.start c.args.nodes.now c.args.n c.args.edges.now c.args.m c.args.refs.now c.args.k in
-    let o = obeyed t c.judge_history-rules.ensures c.refuses.ensures c.if-refuses.false in
-    readied_shown t c.args.t o c.if-t-start.false
-    (omega (arith, (obeys_ruled t o).few_nodes, c.requires.long))
-    c.judge_shown.ensures
+    let h = c.in_ok-history.history in
+    judge_shows c.args.tables.now c.args.t h (c.in_ok-history.ensures {u = tt}) c.if-t-history.false _
+    (omega (arith, c.requires.long, h.ruled.few_nodes, c.judge_shown.auto.up))
+    (c.in_ok-judge_shown.ensures {u = tt})

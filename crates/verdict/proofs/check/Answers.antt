@@ -1,14 +1,13 @@
-use Rattle.tables.specs.Tables.{lent}
-use Rattle.history.proofs.RuledLaws.{obeys_lent}
-use Rattle.verdict.specs.Checked.{judged}
-use Rattle.verdict.proofs.CheckedLaws.{on_rules, on_obeyed}
+use borrow.Author.Rules.{rules}
+use mathlib.Core.Path.{◌≡◌}
+use Rattle.std.specs.Prelude.{Err}
+use Rattle.verdict.proofs.CheckedLaws.{on_refused, on_taken}
 use Rattle.verdict.proofs.check.Goals as goal
 
-pub returns-then-refuses : goal.returns-then-refuses
-returns-then-refuses c = on_rules _ c.judge_history-rules.ensures (cc)
-
-pub sweep-requires : goal.sweep-requires
-sweep-requires c = obeys_lent (lent _ _ _ _ _ _ _) (on_obeyed _ c.judge_history-rules.ensures (cc))
+pub returns-in_err-history : goal.returns-in_err-history
+returns-in_err-history c =
+    let e : c.from_residual.result ≡ Err c.in_err-history.field-0.0 = search rules in
+    rw e (on_refused _ (rw (c.in_err-history.was {u = tt}) at c.of.ensures))
 
 pub returns : goal.returns
-returns c = judged (on_obeyed _ c.judge_history-rules.ensures (cc)) c.sweep.ensures
+returns c = on_taken _ c.in_ok-history.history (rw (c.in_ok-history.was {u = tt}) at c.of.ensures) c.sweep.ensures

@@ -1,49 +1,45 @@
-use Rattle.faults.proofs.JudgeLaws.{outside_found, cycle_found, late_found, dangling_found, rest_found, rest_on}
-use Rattle.faults.proofs.JudgeLaws.{double_found, rest_none}
+use borrow.Author.Rules.{rules}
+use Rattle.history.specs.Computed.{say}
+use Rattle.faults.proofs.JudgeLaws.{outside_found, cycle_found, late_found, dangling_found, double_found}
 use Rattle.faults.proofs.judge.after_gap.Goals as goal
 
--- each answer goes on past the kinds before it, in their order
+pub returns-in_err-none_at : goal.returns-in_err-none_at
+unfolding say
+returns-in_err-none_at c =
+    let outside = outside_found c.requires c.first_outside.ensures in
+    search rules
 
-pub returns-then-outside-n : goal.returns-then-outside-n
-returns-then-outside-n c =
-    rest_found (outside_found c.first_outside-outside.ensures) (λ s e m. c.if-outside-n.true)
-    c.faulty.ensures
+pub returns-in_err-none_at-2 : goal.returns-in_err-none_at-2
+unfolding say
+returns-in_err-none_at-2 c =
+    let outside = outside_found c.requires c.first_outside.ensures in
+    let back = cycle_found c.requires c.first_back.ensures in
+    search rules
 
-pub returns-then-back-n : goal.returns-then-back-n
-returns-then-back-n c =
-    rest_on (outside_found c.first_outside-outside.ensures) (λ s e m. c.if-outside-n.false)
-    (rest_found (cycle_found c.first_back-back.ensures) (λ s e m. c.if-back-n.true)
-    c.faulty-then-back-n.ensures)
+pub returns-in_err-none_at-3 : goal.returns-in_err-none_at-3
+unfolding say
+returns-in_err-none_at-3 c =
+    let outside = outside_found c.requires c.first_outside.ensures in
+    let back = cycle_found c.requires c.first_back.ensures in
+    let late = late_found c.requires c.take_refs-found.ensures.late in
+    search rules
 
-pub returns-then-found-k : goal.returns-then-found-k
-returns-then-found-k c =
-    rest_on (outside_found c.first_outside-outside.ensures) (λ s e m. c.if-outside-n.false)
-    (rest_on (cycle_found c.first_back-back.ensures) (λ s e m. c.if-back-n.false)
-    (rest_found (late_found c.take_refs-found.ensures.late) (λ s e m. c.if-found-k.true)
-    c.faulty-then-found-k.ensures))
-
-pub returns-then-found-k-2 : goal.returns-then-found-k-2
-returns-then-found-k-2 c =
-    rest_on (outside_found c.first_outside-outside.ensures) (λ s e m. c.if-outside-n.false)
-    (rest_on (cycle_found c.first_back-back.ensures) (λ s e m. c.if-back-n.false)
-    (rest_on (late_found c.take_refs-found.ensures.late) (λ s e m. c.if-found-k.false)
-    (rest_found (dangling_found c.take_refs-found.ensures.dangling) (λ s e m. c.if-found-k-2.true)
-    c.faulty-then-found-k-2.ensures)))
-
-pub returns-then-found-n : goal.returns-then-found-n
-returns-then-found-n c =
-    rest_on (outside_found c.first_outside-outside.ensures) (λ s e m. c.if-outside-n.false)
-    (rest_on (cycle_found c.first_back-back.ensures) (λ s e m. c.if-back-n.false)
-    (rest_on (late_found c.take_refs-found.ensures.late) (λ s e m. c.if-found-k.false)
-    (rest_on (dangling_found c.take_refs-found.ensures.dangling) (λ s e m. c.if-found-k-2.false)
-    (rest_found (double_found c.take_refs-found.ensures.double) (λ s e m. c.if-found-n.true)
-    c.faulty-then-found-n.ensures))))
+pub returns-in_err-none_at-4 : goal.returns-in_err-none_at-4
+unfolding say
+returns-in_err-none_at-4 c =
+    let outside = outside_found c.requires c.first_outside.ensures in
+    let back = cycle_found c.requires c.first_back.ensures in
+    let late = late_found c.requires c.take_refs-found.ensures.late in
+    let dangling = dangling_found c.requires c.take_refs-found.ensures.dangling in
+    search rules
 
 pub returns : goal.returns
+unfolding say
 returns c =
-    rest_on (outside_found c.first_outside-outside.ensures) (λ s e m. c.if-outside-n.false)
-    (rest_on (cycle_found c.first_back-back.ensures) (λ s e m. c.if-back-n.false)
-    (rest_on (late_found c.take_refs-found.ensures.late) (λ s e m. c.if-found-k.false)
-    (rest_on (dangling_found c.take_refs-found.ensures.dangling) (λ s e m. c.if-found-k-2.false)
-    (rest_on (double_found c.take_refs-found.ensures.double) (λ s e m. c.if-found-n.false)
-    rest_none))))
+    let outside = outside_found c.requires c.first_outside.ensures in
+    let back = cycle_found c.requires c.first_back.ensures in
+    let late = late_found c.requires c.take_refs-found.ensures.late in
+    let dangling = dangling_found c.requires c.take_refs-found.ensures.dangling in
+    let exact = c.requires.exact in
+    let double = double_found c.args.t exact.seen.ruled (rw exact.same at c.take_refs-found.ensures.double) in
+    search rules

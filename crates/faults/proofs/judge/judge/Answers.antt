@@ -1,34 +1,41 @@
-use mathlib.Core.Path.{◌∙◌}
 use borrow.Author.Rules.{rules}
-use Rattle.answers.specs.declared.Kind.TheVariants.{Overlap, Gap}
-use Rattle.history.specs.Faults.{history_of}
-use Rattle.history.proofs.SayLaws.{say_found, say_on}
-use Rattle.faults.specs.Judged.{Seen}
-use Rattle.faults.proofs.SlotLaws.{fresh, lent_blank}
-use Rattle.faults.proofs.JudgeLaws.{overlap_line, clear, gap_line}
+use native.Mathlib.Omega.{arith}
+use Rattle.history.specs.Computed.{say}
+use Rattle.faults.proofs.SlotLaws.{fresh, ruled_blank}
+use Rattle.faults.proofs.JudgeLaws.{exactly, overlap_found, gap_found, clear}
 use Rattle.faults.proofs.judge.judge.Goals as goal
 
 pub take_rows-requires : goal.take_rows-requires
-take_rows-requires c = lent_blank c.requires.lent_rows (fresh (search rules)) _
+take_rows-requires c = ruled_blank c.args.history.now.ruled (fresh c.args.history.now.ruled.few_nodes) c.args.t
 
-pub returns-then-overlap-n : goal.returns-then-overlap-n
-returns-then-overlap-n c =
-    let seen : Seen (history_of c.args.start c.args.n c.args.edges.now c.args.m c.args.refs.now c.args.k) c.args.t
-    c.take_rows.new.up = record { ruled = search rules; long = search rules; slots = search rules } in
-    c.faulty.ensures ∙ say_found _ _ Overlap (overlap_line seen c.first_overlap-overlap.ensures) _ c.if-overlap-n.true
+pub returns-in_err-none_at : goal.returns-in_err-none_at
+unfolding say
+returns-in_err-none_at c =
+    let ruled = c.args.history.now.ruled in
+    let x = exactly c.take_rows.new.up ruled (omega (arith, ruled.few_nodes)) c.take_rows.ensures in
+    let overlap = overlap_found x c.first_overlap.ensures in
+    search rules
 
-pub returns-then-gap-n : goal.returns-then-gap-n
-returns-then-gap-n c =
-    let seen : Seen (history_of c.args.start c.args.n c.args.edges.now c.args.m c.args.refs.now c.args.k) c.args.t
-    c.take_rows.new.up = record { ruled = search rules; long = search rules; slots = search rules } in
-    say_on _ _ Overlap (overlap_line seen c.first_overlap-overlap.ensures) _ c.if-overlap-n.false
-    (c.faulty-then-gap-n.ensures
-    ∙ say_found _ _ Gap (gap_line seen (search rules) c.requires.bounds c.first_gap-gap.ensures) _ c.if-gap-n.true)
+pub returns-in_err-none_at-2 : goal.returns-in_err-none_at-2
+unfolding say
+returns-in_err-none_at-2 c =
+    let ruled = c.args.history.now.ruled in
+    let x = exactly c.take_rows.new.up ruled (omega (arith, ruled.few_nodes)) c.take_rows.ensures in
+    let overlap = overlap_found x c.first_overlap.ensures in
+    let gap = gap_found x (omega arith) c.requires c.first_gap.ensures in
+    search rules
+
+pub after_gap-requires : goal.after_gap-requires
+after_gap-requires c =
+    let ruled = c.args.history.now.ruled in
+    let x = exactly c.take_rows.new.up ruled (omega (arith, ruled.few_nodes)) c.take_rows.ensures in
+    clear x c.first_overlap.ensures c.none_at.ensures (c.in_ok-none_at.was {u = tt})
 
 pub returns : goal.returns
+unfolding say
 returns c =
-    let seen : Seen (history_of c.args.start c.args.n c.args.edges.now c.args.m c.args.refs.now c.args.k) c.args.t
-    c.take_rows.new.up = record { ruled = search rules; long = search rules; slots = search rules } in
-    say_on _ _ Overlap (overlap_line seen c.first_overlap-overlap.ensures) _ c.if-overlap-n.false
-    (say_on _ _ Gap (gap_line seen (search rules) c.requires.bounds c.first_gap-gap.ensures) _ c.if-gap-n.false
-    (c.after_gap.ensures.answer _ _ _ (clear seen c.first_overlap-overlap.ensures c.if-overlap-n.false)))
+    let ruled = c.args.history.now.ruled in
+    let x = exactly c.take_rows.new.up ruled (omega (arith, ruled.few_nodes)) c.take_rows.ensures in
+    let overlap = overlap_found x c.first_overlap.ensures in
+    let gap = gap_found x (omega arith) c.requires c.first_gap.ensures in
+    search rules

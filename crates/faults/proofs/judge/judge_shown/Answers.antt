@@ -1,30 +1,24 @@
-use mathlib.Core.Path.{◌∙◌}
 use borrow.Author.Rules.{rules}
-use Rattle.answers.specs.declared.Kind.TheVariants.{Overlap}
-use Rattle.history.specs.Faults.{history_of}
-use Rattle.history.proofs.SayLaws.{say_found, say_on}
-use Rattle.faults.specs.Judged.{Seen}
-use Rattle.faults.proofs.JudgeLaws.{overlap_line, clear}
+use native.Mathlib.Omega.{arith}
+use Rattle.history.specs.Computed.{say}
+use Rattle.faults.proofs.JudgeLaws.{exactly, overlap_found, clear}
 use Rattle.faults.proofs.judge.judge_shown.Goals as goal
 
-pub returns-then-overlap-n : goal.returns-then-overlap-n
-returns-then-overlap-n c =
-    let seen : Seen (history_of c.args.start c.args.n c.args.edges.now c.args.m c.args.refs.now c.args.k) c.args.t
-    c.take_rows.new.up = record { ruled = search rules; long = search rules; slots = search rules } in
-    record {
-      answer =
-          c.faulty.ensures
-          ∙ say_found _ _ Overlap (overlap_line seen c.first_overlap-overlap.ensures) _ c.if-overlap-n.true;
-      slots = search rules;
-    }
+pub returns-in_err-none_at : goal.returns-in_err-none_at
+unfolding say
+returns-in_err-none_at c =
+    let x = exactly c.take_rows.new.up c.args.history.now.ruled (omega (arith, c.requires.long)) c.take_rows.ensures in
+    let overlap = overlap_found x c.first_overlap.ensures in
+    record { answer = search rules; slots = c.take_rows.ensures }
+
+pub after_gap-requires : goal.after_gap-requires
+after_gap-requires c =
+    let x = exactly c.take_rows.new.up c.args.history.now.ruled (omega (arith, c.requires.long)) c.take_rows.ensures in
+    clear x c.first_overlap.ensures c.none_at.ensures (c.in_ok-none_at.was {u = tt})
 
 pub returns : goal.returns
+unfolding say
 returns c =
-    let seen : Seen (history_of c.args.start c.args.n c.args.edges.now c.args.m c.args.refs.now c.args.k) c.args.t
-    c.take_rows.new.up = record { ruled = search rules; long = search rules; slots = search rules } in
-    record {
-      answer =
-          say_on _ _ Overlap (overlap_line seen c.first_overlap-overlap.ensures) _ c.if-overlap-n.false
-          (c.after_gap.ensures.answer _ _ _ (clear seen c.first_overlap-overlap.ensures c.if-overlap-n.false));
-      slots = search rules;
-    }
+    let x = exactly c.take_rows.new.up c.args.history.now.ruled (omega (arith, c.requires.long)) c.take_rows.ensures in
+    let overlap = overlap_found x c.first_overlap.ensures in
+    record { answer = search rules; slots = c.take_rows.ensures }

@@ -1,9 +1,11 @@
 use borrow.Author.Rules.{rules}
-use Rattle.ground.proofs.LeastLaws.{search_found, search_missed}
+use borrow.Author.Tests.{tests}
+use mathlib.Core.Path.{refl}
+use Rattle.ground.proofs.LeastLaws.{find_found}
+use Rattle.faults.specs.Leaves.{is_gap_of}
 use Rattle.faults.proofs.leaves.first_gap.Goals as goal
 
-pub returns-then-is_gap : goal.returns-then-is_gap
-returns-then-is_gap c = search_found _ (search rules) (search rules) (cc)
-
 pub returns : goal.returns
-returns c = search_missed _ c.loop-c-test.false (search rules)
+returns c =
+    find_found (is_gap_of c.args.up.now c.args.spans.now c.args.t) _ _ refl refl _ _ c.find.ensures.ran
+    (λ x b q k. search (rules, tests))

@@ -1,8 +1,5 @@
-use Rattle.tables.specs.Tables.{edge_at, ref_at}
 use Rattle.history.proofs.UntilLaws.{until_both}
-use borrow.Author.Rules.{rules}
 use Rattle.faults.proofs.until.until.Goals as goal
 
 pub returns : goal.returns
-unfolding edge_at ref_at
-returns c = rw c.smaller.ensures (until_both _ _ _ _ _ (search rules) (search rules))
+returns c = rw c.min.ensures (until_both _ _ _ _ _ c.rows_until.ensures c.rows_until-2.ensures)

@@ -1,9 +1,6 @@
-use Prim.Native.Nat.{◌-◌}
+use lib.ListN.{length}
 use Rattle.faults.proofs.WalkLaws.{Climbing}
 use Rattle.faults.proofs.walk.comes_back.Given as goal
 
-abbrev pub invariant-loop-k : goal.invariant-loop-k
-invariant-loop-k l = Climbing l.up l.n l.c l.x l.k
-
-abbrev pub decreases-loop-k : goal.decreases-loop-k
-decreases-loop-k l = l.n - l.k
+abbrev pub invariant-loop-step : goal.invariant-loop-step
+invariant-loop-step l = Climbing l.up (length l.up) l.c l.x l.step

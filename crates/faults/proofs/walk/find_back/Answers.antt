@@ -1,11 +1,12 @@
 use borrow.Author.Rules.{rules}
-use native.Mathlib.Omega.{arith}
-use Rattle.ground.proofs.LeastLaws.{before_more, least_missed}
+use borrow.Author.Tests.{tests}
+use mathlib.Core.Path.{refl}
+use lib.ListN.{length}
+use Rattle.ground.proofs.LeastLaws.{find_finds}
+use Rattle.faults.specs.Walks.{Back}
 use Rattle.faults.proofs.walk.find_back.Goals as goal
 
-pub loop-i-preserved : goal.loop-i-preserved
-loop-i-preserved c =
-    (search rules, before_more _ _ (search rules) (c.comes_back.ensures.failed c.if-comes_back.false))
-
 pub returns : goal.returns
-returns c = least_missed _ (λ i h. c.loop-i.invariant.1 i (omega arith))
+returns c =
+    find_finds (Back c.args.up.now (length c.args.up.now)) _ _ refl refl _ _ c.find.ensures.ran
+    (λ x q k. search (rules, tests)) (λ x q k. search (rules, tests))

@@ -1,10 +1,8 @@
-use Prim.Native.Nat.{◌-◌}
-use lib.ListN.{length}
-use Rattle.lines.proofs.StepLaws.{Matched}
+use mathlib.Core.Path.{◌≡◌}
+use Prim.Native.Nat.{◌+◌}
+use lib.ListN.{drop}
+use Rattle.lines.specs.Reads.{begun}
 use Rattle.lines.proofs.read.begun.Given as goal
 
 abbrev pub invariant-loop-j : goal.invariant-loop-j
-invariant-loop-j l = Matched l.key l.text l.at l.j
-
-abbrev pub decreases-loop-j : goal.decreases-loop-j
-decreases-loop-j l = length l.key - l.j
+invariant-loop-j l = begun l.key l.rest ≡ l.j + begun (drop l.j l.key) (drop l.j l.rest)

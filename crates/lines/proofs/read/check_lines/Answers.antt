@@ -1,17 +1,19 @@
-use mathlib.Core.Path.{sym, ap, ◌∙◌}
-use Rattle.lines.specs.declared.read.Ended.TheVariants.{Wrong}
-use Rattle.lines.proofs.StepLaws.{line_refused, line_checked, lines_checked}
+use mathlib.Core.Path.{◌≡◌, sym, ◌∙◌}
 use native.Mathlib.Omega.{arith}
+use Rattle.std.proofs.Common.{rules, Ok}
+use Rattle.lines.specs.Reads.{ended_of, lines_at, and_then, on_line}
+use Rattle.lines.proofs.StepLaws.{lines_step}
 use Rattle.lines.proofs.read.check_lines.Goals as goal
 
-pub returns-in-Wrong : goal.returns-in-Wrong
-returns-in-Wrong c =
-    ap Wrong c.refused_at.ensures
-    ∙ line_refused c.loop-left.invariant (omega arith) (sym c.check_line-x.ensures ∙ c.in-Wrong.is)
+pub returns-in_err-i : goal.returns-in_err-i
+unfolding ended_of lines_at and_then on_line
+returns-in_err-i c = search rules
 
-pub loop-left-preserved : goal.loop-left-preserved
-loop-left-preserved c =
-    line_checked c.loop-left.invariant (omega arith) (sym c.check_line-x.ensures ∙ c.in-At.is)
+pub loop-preserved : goal.loop-preserved
+loop-preserved c =
+    let read : c.check_line.result ≡ Ok c.in_ok-i.i = search rules in
+    c.loop.invariant ∙ lines_step _ _ _ _ _ _ (omega arith) (sym c.check_line.ensures ∙ read)
 
 pub returns : goal.returns
-returns c = lines_checked c.loop-left.invariant c.loop-left-test.false
+unfolding ended_of lines_at
+returns c = search rules

@@ -1,8 +1,9 @@
-use Rattle.lines.proofs.StepLaws.{CheckingLines}
+use mathlib.Core.Path.{◌≡◌}
+use Prim.Native.Nat.{◌-◌}
+use Rattle.lines.specs.Reads.{ended_of, lines_at}
 use Rattle.lines.proofs.read.check_lines.Given as goal
 
-abbrev pub invariant-loop-left : goal.invariant-loop-left
-invariant-loop-left l = CheckingLines l.key l.f l.text l.m l.at l.left l.i
-
-abbrev pub decreases-loop-left : goal.decreases-loop-left
-decreases-loop-left l = l.left
+abbrev pub invariant-loop : goal.invariant-loop
+invariant-loop l =
+    ended_of (lines_at l.line.key.now l.line.form l.text l.m l.at)
+    ≡ ended_of (lines_at l.line.key.now l.line.form l.text (l.m - l.counter) l.i)

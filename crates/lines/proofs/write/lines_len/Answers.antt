@@ -1,9 +1,9 @@
 use Rattle.lines.proofs.WriteLaws.{count_line, count_lines_done}
-use native.Mathlib.Omega.{arith}
 use Rattle.lines.proofs.write.lines_len.Goals as goal
 
-pub loop-left-preserved : goal.loop-left-preserved
-loop-left-preserved c = count_line c.loop-left.invariant (omega arith) c.requires c.numbers_len.ensures
+pub loop-row-preserved : goal.loop-row-preserved
+loop-row-preserved c =
+    count_line c.loop-row.invariant c.loop-row-test.true (rw (← c.table.view_is) at c.requires) c.numbers_len.ensures
 
 pub returns : goal.returns
-returns c = count_lines_done c.loop-left.invariant c.loop-left-test.false
+returns c = rw (← c.table.view_is) (count_lines_done c.loop-row.invariant c.loop-row-test.false)

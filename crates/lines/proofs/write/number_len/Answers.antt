@@ -18,5 +18,5 @@ long last v n h e q =
 
 pub returns-in-At : goal.returns-in-At
 returns-in-At c =
-    long _ _ _ (omega arith) (c.written_as-end.ensures ∙ ap end_text c.in-At.is)
+    long _ _ _ (omega arith) (c.written_as.ensures ∙ ap end_text c.in-At.is)
     c.decimal_width.ensures

@@ -1,10 +1,9 @@
-use Prim.Native.Nat.{◌-◌}
-use lib.ListN.{length}
-use Rattle.lines.proofs.WriteLaws.{Putting}
+use mathlib.Core.Path.{◌≡◌}
+use Prim.Native.Nat.{◌+◌}
+use lib.ListN.{drop}
+use lib.Seq.{sets}
 use Rattle.lines.proofs.write.put.Given as goal
 
+-- what is left makes of out what the bytes make of it at first
 abbrev pub invariant-loop-j : goal.invariant-loop-j
-invariant-loop-j l = Putting l.bytes l.initial.out l.at l.out l.i l.j
-
-abbrev pub decreases-loop-j : goal.decreases-loop-j
-decreases-loop-j l = length l.bytes - l.j
+invariant-loop-j l = sets l.initial.out l.at l.bytes ≡ sets l.out (l.at + l.j) (drop l.j l.bytes)

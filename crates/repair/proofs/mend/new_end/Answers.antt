@@ -1,7 +1,9 @@
-use Rattle.repair.proofs.EndLaws.{new_end_found}
+use native.Mathlib.Omega.{arith}
+use mathlib.Core.Path.{sym, ◌∙◌}
+use Rattle.repair.proofs.BoundLaws.{next_some}
 use Rattle.repair.proofs.mend.new_end.Goals as goal
 
-pub returns : goal.returns
-returns c =
-    let label = c.edge_label-label.ensures in
-    new_end_found _ _ _ label c.edge_child.ensures c.find_bounds-found.ensures c.end_before.ensures
+pub overflow_sub-result : goal.overflow_sub-result
+overflow_sub-result c =
+    let later = next_some _ _ _ _ (sym c.in-Some.is ∙ c.find_bounds-bounds.ensures.start) in
+    omega arith

@@ -1,20 +1,21 @@
-use borrow.Author.Rules.{rules}
+use native.Mathlib.Omega.{arith}
 use mathlib.Core.Path.{sym, ◌∙◌}
-use Rattle.ground.proofs.LeastLaws.{search_more, search_found, search_missed}
+use Rattle.ground.proofs.LeastLaws.{search_more, found_some, found_none}
 use Rattle.repair.proofs.TieLaws.{tied_found, tied_missed}
 use Rattle.repair.proofs.tie.first_tie.Goals as goal
 
 pub rows-preserved : goal.rows-preserved
 rows-preserved c =
-    let missed = tied_missed _ _ c.loop-j-test.false c.loop-j.invariant.1 in
-    (search rules, search_more _ _ c.rows.invariant.1 missed)
+    let (none, before) = c.loop-j.invariant in
+    (none, search_more _ _ c.rows.invariant.1 (tied_missed _ _ c.loop-j-test.false before))
 
 pub returns-after-rows : goal.returns-after-rows
 returns-after-rows c =
-    let inv = c.rows.invariant in
-    inv.0.0 ∙ search_missed _ c.rows-test.false inv.1
+    let (none, before) = c.rows.invariant in
+    none ∙ found_none _ (λ k h. before k (omega (arith, c.rows-test.false, c.len-i-end.ensures)))
 
 pub returns-then-same_start : goal.returns-then-same_start
 returns-then-same_start c =
-    let found = tied_found _ _ _ c.loop-j-test.true (sym c.same_start.ensures ∙ c.if-same_start.true) in
-    search_found _ c.rows-test.true c.rows.invariant.1 found
+    let same = sym c.same_start.ensures ∙ c.if-same_start.true in
+    found_some _ (omega (arith, c.rows-test.true, c.len-i-end.ensures)) c.rows.invariant.1
+    (tied_found _ _ _ c.loop-j-test.true (rw (c.row.ensures, c.row-row.ensures) at same))

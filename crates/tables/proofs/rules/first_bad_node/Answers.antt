@@ -1,11 +1,13 @@
-use mathlib.Core.Path.{◌∙◌, sym}
-use Rattle.ground.proofs.LeastLaws.{search_found, search_missed}
+use borrow.Author.Rules.{rules}
+use borrow.Author.Tests.{tests}
+use mathlib.Core.Path.{refl}
+use Rattle.ground.proofs.LeastLaws.{find_found}
+use Rattle.tables.specs.Tables.{node_at}
+use Rattle.tables.specs.Tests.{bad_node_of}
 use Rattle.tables.proofs.rules.first_bad_node.Goals as goal
 
-pub returns-then-bad_node : goal.returns-then-bad_node
-returns-then-bad_node c =
-    search_found _ c.loop-i-test.true c.loop-i.invariant.1
-    (sym c.bad_node.ensures ∙ c.if-bad_node.true)
-
 pub returns : goal.returns
-returns c = search_missed _ c.loop-i-test.false c.loop-i.invariant.1
+unfolding bad_node_of
+returns c =
+    find_found (bad_node_of (node_at c.args.nodes.now.numbers)) _ _ refl c.len.ensures _ _ c.find.ensures.ran
+    (λ x b q k. search (rules, tests))

@@ -1,0 +1,6 @@
+use native.Mathlib.Omega.{arith}
+use Rattle.lines.proofs.NumberLaws.{begun_within}
+use Rattle.lines.proofs.read.read_key.Goals as goal
+
+pub overflow_add-after : goal.overflow_add-after
+overflow_add-after c = omega (arith, begun_within _ _ _ _ c.begun-k.ensures)
