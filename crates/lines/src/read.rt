@@ -60,7 +60,9 @@ fn read_number(text: &[u8], at: usize, f: Form, last: bool) -> Result<Number, Wr
     }
 }
 
-// The number of a line of form f that `left` more follow, with the place after its mark.
+// The number of a line of form f that `left` more follow, with the place after its mark. It is put in place where it is
+// called: by a call for each number, read text took 1.15 to 1.55 of the time.
+#[inline(always)]
 #[tactic(auto, unfolding(crate::specs::Reads::marked))]
 fn read_marked(text: &[u8], at: usize, f: Form, left: usize) -> Result<Number, Wrong>
     ensures { result ≡ marked_at f text.now left at }
