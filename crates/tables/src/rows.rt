@@ -1,11 +1,11 @@
 // The rows of tables, and how a row is read and stored: with specs/Tables.antt and specs/Rows.antt all that knows how
 // many numbers a row has.
 ghost use Rattle.std.specs.Prelude.{◌≡◌, ◌+◌, ◌<◌, List, ℕ};
-ghost use Rattle.tables.specs.Labels.{instant_of};
-ghost use Rattle.tables.specs.Tables.{table};
-ghost use Rattle.tables.specs.Rows.{set_end, set_edge_of, HasRows, HasEdges};
+ghost use Rattle.tables.specs.Labels.{instant_of, label_of};
+ghost use Rattle.tables.specs.Tables.{cell_at, table};
+ghost use Rattle.tables.specs.Rows.{from_at, to_at, set_end, set_edge_of, HasRows, HasEdges};
 
-use super::label::End;
+use super::label::{End, Label};
 use super::lent::Table;
 use std::marker::{Model, PhantomData};
 
@@ -129,6 +129,25 @@ impl Row for RefRow {
             to: numbers[at + 3],
         }
     }
+}
+
+// Number k of row i, where rows have a width that only the caller knows: there is no type of such a row.
+pub fn cell_at(rows: &[u32], width: usize, i: usize, k: usize) -> u32
+    requires { (k < width) × HasRows width rows.now (i + 1) }
+    ensures { result ≡ cell_at width rows.now i k }
+{
+    rows[i * width + k]
+}
+
+// Such a row of either kind ends with its label.
+pub fn label_at(rows: &[u32], width: usize, i: usize) -> Label
+    requires { (1 < width) × HasRows width rows.now (i + 1) }
+    ensures { result ≡ label_of (from_at width rows.now i) (to_at width rows.now i) }
+{
+    Label::of(
+        cell_at(rows, width, i, width - 2),
+        cell_at(rows, width, i, width - 1),
+    )
 }
 
 // A table that holds so many whole rows, or more. Rows are gone over by number, `for i in 0..rows.len()`: a row's
