@@ -4,10 +4,11 @@
 --   form_read, form_unread             into these, read text answers 0 exactly if the text is of the form
 --   rows_fit      the rows that were read are within what was lent
 --   again         what was read is written again as the same text
---   tables_written   write text answers 0 only if it can write the tables
+--   tables_written, tables_unwritten   write text answers 0 exactly if it can write the tables
+--   text_fits     the text that was written is within what was lent
 --   back          what was written is read back as the same tables; rows_back: its rows are within what was lent
 -- Assumes nothing.
-use mathlib.Core.Path.{◌≡◌, refl, sym, ap}
+use mathlib.Core.Path.{◌≡◌, refl, sym, ap, ◌∙◌}
 use mathlib.Core.Bool.{false, false≢true}
 use mathlib.Core.Logic.{◌≢◌}
 use mathlib.Core.List.{List}
@@ -16,20 +17,20 @@ use lib.ListN.{length, take, drop, replicate}
 use lib.Seq.{take-append_seam}
 use Rattle.ground.specs.Lists.{front}
 use Rattle.answers.specs.Answers.{Answer}
-use Rattle.answers.specs.Numbers.{Numbers, refuses, passed}
+use Rattle.answers.specs.Numbers.{Numbers, numbers, refuses, passed}
 use Rattle.tables.specs.Tables.{Now, node_width, edge_width, ref_width, Table, Tables}
 use Rattle.tables.specs.Rules.{most_nodes, most_edges, most_refs, Whole}
-use Rattle.text.specs.Text.{Small}
+use Rattle.text.specs.Text.{Small, text_of}
 use Rattle.text.specs.Answers.{Written, out_of_size, short, wrote, Accepted, counts_of}
 use Rattle.text.specs.declared.forms.Counts.{Counts}
 use Rattle.std.specs.Prelude.{Ok}
 use Rattle.text.proofs.TieLaws.{sizes_of}
 use Rattle.text.proofs.RoomLaws.{Most, most_fits, front_long, read_fits}
-use Rattle.text.proofs.PromiseLaws.{counted_front, read_accepted, read_fronts}
+use Rattle.text.proofs.PromiseLaws.{counted_front, read_accepted, read_fronts, write_unique, write_holds}
 use Rattle.answers.specs.declared.Answered.{Answered}
 use Rattle.bindlewort.specs.declared.Reading.{Reading}
 use Rattle.bindlewort.specs.Given.{slices, Retold, Leaves, Reads}
-use Rattle.bindlewort.proofs.GivenLaws.{told_code, told_done, retold_done}
+use Rattle.bindlewort.proofs.GivenLaws.{told_code, told_done, written_place, retold_done}
 use Rattle.bindlewort.proofs.Demands.{written_reads_back, read_writes_again}
 use Rattle.both_sides.specs.Cases.{OfForm, CanWrite}
 
@@ -103,8 +104,18 @@ pub record CameBack (L : Tables) (q : Reading) (n' e' f' : List ℕ) : Type 0 wh
 
 -- what write text returned, and left in an output
 module _ {L : Tables} {out : List ℕ} {r : Answered} {out' : List ℕ} (writes : Leaves (Written L out) r out') where
+  pub tables_unwritten : r.code ≢ 0 → CanWrite L out → ⊥
+  tables_unwritten h (s, room) =
+      let (a, w, e) = writes in
+      h (told_code r a e ∙ ap (λ (b : Answer). (numbers b).code) (write_unique w (wrote s room)).0)
+
   pub tables_written : r.code ≡ 0 → CanWrite L out
   tables_written z = let (a, w, e) = writes in can_write w (told_done r a e z)
+
+  pub text_fits : r.code ≡ 0 → r.place ≤ length out'
+  text_fits z =
+      let (a, w, e) = writes in
+      rw (written_place writes z, (write_holds w (told_done r a e z)).2) (front_long (text_of L) out)
 
   -- what was written, read back
   module _ (z : r.code ≡ 0) (start : L.start ≤ Now) (nodes : Small L.nodes.numbers)

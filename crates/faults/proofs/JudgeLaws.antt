@@ -27,11 +27,11 @@ use Rattle.tables.specs.Says.{named}
 use Rattle.answers.specs.declared.Kind.TheVariants as kind
 use Rattle.tables.specs.Rows.{Side}
 use Rattle.tables.specs.Rows.{Attribute, Target}
-use Rattle.tables.specs.Tables.{Now}
+use Rattle.tables.specs.Tables.{Now, ref_at}
 use Rattle.tables.specs.Rows.{side_of}
 use Rattle.tables.proofs.LabelLaws.{during_tells}
 use Rattle.history.specs.Faults.{History, Overlap, Double, Here, HoldsAt}
-use Rattle.history.specs.Ruled.{Ruled}
+use Rattle.history.specs.Ruled.{Ruled, LentRows}
 use Rattle.history.specs.Places.{Astray, places}
 use Rattle.history.specs.Computed.{holds}
 use Rattle.history.proofs.RuledLaws.{ruled_below, ruled_side}
@@ -53,6 +53,9 @@ line H t k = found (holds H t k) (places H k)
 -- the ends of a history's references are nodes
 pub ruled_referring : {H : History} → Ruled H → Referring H.refs H.ref H.nodes
 ruled_referring r = ruled_side _ r
+
+pub lent_referring : {start n m k : ℕ} {es rs : List ℕ} → LentRows start n es m rs k → Referring k (ref_at rs) n
+lent_referring l = ruled_referring l.ruled
 
 -- an answer that passes names no place
 named_none : (answer : ℕ → Refusal) (r : Option ℕ) {done : Outcome} → named (λ p. Err (answer p)) r ≡ Ok done → r ≡ None

@@ -4,15 +4,27 @@ use mathlib.Core.Path.{◌≡◌, refl, sym, ap, ap₂, ◌∙◌}
 use mathlib.Core.List.{List, [], ◌∷◌, ◌++◌, append_assoc, append-nil}
 use mathlib.Core.Logic.{◌⊎◌, inl, inr, ⊎_elim}
 use Prim.Native.Nat.{ℕ, zero, suc, ◌+◌, ◌≤◌, ◌<◌}
+use native.Mathlib.Decide.{ℕ_discrete}
 use native.Mathlib.Nat.{add-zero}
 use native.Mathlib.Numerals.{add-one}
 use native.Mathlib.Omega.{arith}
-use lib.ListN.{length, get_or, set, drop, length-set, length-append, get_or-eq_default}
+use lib.ListN.{length, get_or, set, drop, length-set, length-append, length-drop, get_or-eq_default}
 use lib.Seq.{sets, sets-eq, get_or-set_same, get_or-set_other, set_comm, get_or-drop, drop-cons, drop-drop, drop-append_seam}
 use lib.Seq.{drop-length}
 use Rattle.ground.specs.Lists.{Stands, front}
 use Rattle.ground.specs.Stores.{Put}
 use Rattle.ground.proofs.TestLaws.{by_lt}
+
+-- what holds of every place and number below i, and of i and the number stored there, holds below i + 1:
+-- a loop that stores at its counter
+pub set_below : (P : ℕ → ℕ → Type 0) (l : List ℕ) (i v : ℕ) → i < length l → ((k : ℕ) → k < i → P k (get_or l k 0))
+    → P i v
+    → (k : ℕ) → k < i + 1 → P k (get_or (set l i v) k 0)
+set_below P l i v li all here k lk = go (ℕ_discrete k i)
+  where
+    go : Dec (k ≡ i) → P k (get_or (set l i v) k 0)
+    go (yes e) = rw (e, get_or-set_same l i v 0 li) here
+    go (no e) = rw (get_or-set_other l i k v 0 e) (all k (omega arith))
 
 -- an element before a run of stores, and one after it, stays; one of the run is what was stored
 pub sets_outside : (l : List ℕ) (i j : ℕ) (a : List ℕ) → (j < i) ⊎ (i + length a ≤ j)
@@ -77,6 +89,10 @@ stands_append {s} {i} {n} {m} {x} {y} p q =
       here = p.here ∙ ap (λ (r : List ℕ). x ++ r) q.here ∙ sym (append_assoc x y (drop m s));
       after = omega (arith, length-append x y);
     }
+
+-- what stands is within the list
+pub stands_within : {s : List ℕ} {i n : ℕ} {x : List ℕ} → i ≤ length s → Stands s i x n → n ≤ length s
+stands_within {s} {i} {n} {x} h p = omega (arith, simp (length-append, length-drop) at (ap length p.here))
 
 -- what stands from the first place to the last is all of the list
 pub stands_whole : (s x : List ℕ) (n : ℕ) → Stands s 0 x n → n ≡ length s → s ≡ x

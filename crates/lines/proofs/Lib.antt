@@ -1,6 +1,7 @@
 pub mod GotLaws
 pub mod NumberLaws
 pub mod LineLaws
+pub mod EndLaws
 pub mod StepLaws
 pub mod FillLaws
 pub mod WriteLaws

@@ -13,15 +13,16 @@
 --   line_at                 a line, refused at a byte within it
 --   refused_at_of, on_line      the place that is answered for it
 --   lines_at                m lines, as rows of the table
---   ended_of                what a reader that keeps no numbers answers
+--   ended_of                what a reader that keeps no numbers answers; EndsWithin: it ended within the text
 --   is_got, got_of, place_of  whether something was read; that (or what stands for it), and the place
 --   numbers_of, one_of       the numbers that were read, or none; the number of a line of one
+--   NumWithin               such a number ended within the text
 -- A line is refused at the byte up to which it begins some line of the form: a number ends where its next digit would
 -- take it past the most, and of the numbers below a form's least, which is 0 or 1, there is only 0, from which none
 -- goes on. proofs/ByteCases.antt computes cases; that it is so of every text is for [02:Ask 4], which answers that byte
 -- and takes `refused_at_of` away.
 -- Assumes nothing.
-use Rattle.std.specs.Prelude.{Bool, true, false, cond, List, [], ◌∷◌, ◌++◌, ℕ, zero, suc, ◌+◌, ◌-◌, leb, eqb}
+use Rattle.std.specs.Prelude.{Bool, true, false, cond, List, [], ◌∷◌, ◌++◌, ℕ, zero, suc, ◌+◌, ◌-◌, ◌≤◌, leb, eqb}
 use Rattle.std.specs.Prelude.{length, get_or, drop, Result, Ok, Err}
 use Rattle.tables.specs.Tables.{Now}
 use Rattle.decimals.specs.declared.Number.{Number}
@@ -109,6 +110,10 @@ unfoldable pub ended_of : {A : Type 0} → Got A → Result ℕ Wrong
 ended_of (got a n) = Ok n
 ended_of (wrong p) = Err (record { at = p })
 
+abbrev pub EndsWithin : List ℕ → Result ℕ Wrong → Type 0
+EndsWithin s (Ok n) = n ≤ length s
+EndsWithin s (Err e) = Unit {0}
+
 unfoldable pub is_got : {A : Type 0} → Got A → Bool
 is_got (got a n) = true
 is_got (wrong p) = false
@@ -128,3 +133,7 @@ numbers_of = got_of []
 unfoldable pub one_of : Got (List ℕ) → Result Number Wrong
 one_of (got vs n) = number (get_or vs 0 0) n
 one_of (wrong p) = no_number p
+
+abbrev pub NumWithin : List ℕ → Result Number Wrong → Type 0
+NumWithin s (Ok x) = x.after ≤ length s
+NumWithin s (Err e) = Unit {0}

@@ -6,9 +6,10 @@ use mathlib.Core.List.{List}
 use Prim.Native.Nat.{ℕ, ◌+◌, ◌≤◌, ◌<◌}
 use native.Mathlib.Omega.{arith}
 use lib.Dec.{ltb}
-use lib.ListN.{length, take}
+use lib.ListN.{length, get_or, take}
 use Rattle.std.specs.List.{count_by}
 use borrow.Author.Tests.{lt-ltb, le-ltb}
+use Rattle.ground.specs.Sums.{count}
 use Rattle.ground.proofs.TestLaws.{by_test, by_lt}
 use Rattle.std.specs.Prelude.{Ok, Err}
 use Rattle.answers.specs.declared.Fault.{Fault}
@@ -42,7 +43,7 @@ use Rattle.snapshot.specs.Readied.{Readiness, refused, is_ready, Showing}
 use Rattle.snapshot.specs.Walk.{subtree}
 use Rattle.snapshot.specs.Lists.{kids_by, rows_by}
 use Rattle.faults.proofs.JudgeLaws.{exactly}
-use Rattle.snapshot.proofs.RowLaws.{counted, walked}
+use Rattle.snapshot.proofs.RowLaws.{counted, all_counted, walked}
 
 -- what is computed at an instant: before the start, and where a fault is named or none
 module _ (H : History) (t : ℕ) where
@@ -137,7 +138,7 @@ module _ (L : Tables) (t : ℕ) where
   pub ready_tells : {a : Answer} → Is a → (refuses a ≡ false) ↔ Known
   ready_tells x = (readiness_ready x, λ r. ap refuses (readiness_is x ∙ says_ready r))
 
-  readiness_unready : {a : Answer} → Is a → refuses a ≡ true → Unready L t a
+  pub readiness_unready : {a : Answer} → Is a → refuses a ≡ true → Unready L t a
   readiness_unready (refused u) e = u
   readiness_unready (is_ready r) e = absurd (false≢true e)
 
@@ -176,8 +177,11 @@ module _ (L : Tables) (t : ℕ) where
     exact : Exact H t parents
     exact = rw nodes (exactly up x.seen.ruled x.seen.long x.seen.slots)
 
-    pub ready_counted : 1 + count_by (λ p. ltb p (length parents)) parents ≡ length (shown_rows H t)
-    ready_counted = counted H t (ready_tree x.ready) exact x.ready.begun (ready_single x.ready)
+    pub ready_counted : 1 + count (λ c. ltb (get_or up c 0) H.nodes) H.nodes ≡ length (shown_rows H t)
+    ready_counted = counted H t (ready_tree x.ready) x.seen x.ready.begun (ready_single x.ready)
+
+    pub ready_all_counted : 1 + count_by (λ p. ltb p (length parents)) parents ≡ length (shown_rows H t)
+    ready_all_counted = all_counted H t (ready_tree x.ready) exact x.ready.begun (ready_single x.ready)
 
     pub ready_rows : rows_by parents h.refs t ≡ shown_rows H t
     ready_rows =

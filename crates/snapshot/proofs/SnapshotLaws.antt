@@ -25,7 +25,7 @@ use Rattle.snapshot.specs.Readied.{Readiness, refused, is_ready, Showing}
 use Rattle.snapshot.specs.Lists.{rows_by, Showable}
 use Rattle.snapshot.proofs.ShownLaws.{subtree_unique, rows_shown}
 use Rattle.snapshot.proofs.ReadyLaws.{ready_ruled, ready_tree, readiness_is, readiness_exists, unready_refuses}
-use Rattle.snapshot.proofs.ReadyLaws.{ready_counted, ready_rows, ready_long}
+use Rattle.snapshot.proofs.ReadyLaws.{ready_all_counted, ready_rows, ready_long}
 
 room_short : (t k room : ℕ) → room < k * shown_width → room_says t k room ≡ Room t k
 unfolding room_says
@@ -103,7 +103,7 @@ module _ (L : Tables) (t : ℕ) where
     module _ {h : Taken} {up : List ℕ} (x : Showing L t h up) {k : ℕ}
         (counted : k ≡ 1 + count_by (λ p. ltb p (length (take h.nodes up))) (take h.nodes up)) where
       needed : k ≡ length (shown_rows H t)
-      needed = counted ∙ ready_counted L t x
+      needed = counted ∙ ready_all_counted L t x
 
       pub on_short : length before < k * shown_width → Gives (Room t k) before
       on_short l = rw needed (short x.ready (ready_shown x.ready) (rw needed at l))

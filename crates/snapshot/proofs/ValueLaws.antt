@@ -114,6 +114,8 @@ module _ (row : ℕ → RefRow) (t : ℕ) where
             put_other l (place i) (value i) n d ∙ a n g
             ∙ sym (value_skip (passes n) value i (rw (ne_eqb (place i) n (λ x. d (sym x)))))
 
-    pub list_put : (l' : List ℕ) → l' ≡ put_first_of l (place i) (value i) → place i < length l → Listed (i + 1) l'
-    list_put l' q h n g =
-        ap (λ r. get_or r n 0) q ∙ put_at h n (omega (arith, ap length q, put_length l (place i) (value i)))
+    pub list_put : (l' : List ℕ) → l' ≡ put_first_of l (place i) (value i) → place i < length l
+        → (length l' ≡ length l) × Listed (i + 1) l'
+    list_put l' q h =
+        let k : length l' ≡ length l = ap length q ∙ put_length l (place i) (value i) in
+        (k, λ n g. ap (λ r. get_or r n 0) q ∙ put_at h n (omega arith))

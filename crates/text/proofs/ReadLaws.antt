@@ -3,7 +3,7 @@ use mathlib.Core.Bool.{true}
 use mathlib.Core.List.{List, []}
 use mathlib.Core.Logic.{◌⊎◌, inl, inr, ⊎_elim}
 use mathlib.Core.Path.{◌≡◌, refl, sym, ap, subst, ◌∙◌}
-use Prim.Native.Nat.{ℕ, ◌*◌}
+use Prim.Native.Nat.{ℕ, ◌*◌, ◌≤◌}
 use native.Mathlib.Omega.{arith}
 use lib.ListN.{length}
 use borrow.Author.Tests.{lt-ltb, le-ltb}
@@ -15,16 +15,17 @@ use Rattle.answers.specs.Answers.{Answer, Room}
 use Rattle.answers.specs.Numbers.{passed}
 use Rattle.tables.specs.Tables.{node_width, edge_width, ref_width, Tables}
 use Rattle.ground.specs.Lists.{front}
-use Rattle.ground.proofs.ListLaws.{sets_front}
+use Rattle.ground.proofs.ListLaws.{stands_within, sets_front}
 use Rattle.ground.proofs.TestLaws.{by_lt}
 use Rattle.lines.specs.Reads.{Got, got, wrong, lines_at, is_got, got_of, numbers_of, place_of}
 use Rattle.lines.specs.Plans.{plan_at}
 use Rattle.lines.specs.Fills.{FillableLines, Filled}
 use Rattle.lines.proofs.GotLaws.{got_place, got_is, got_of_lem, is_got_lem, got_then}
+use Rattle.lines.proofs.PlanLaws.{plan_is}
 use Rattle.text.specs.declared.forms.Counts.{Counts}
 use Rattle.text.specs.Forms.{counted, node_key, edge_key, ref_key, node_form, edge_form, ref_form}
 use Rattle.text.specs.Answers.{counts_of}
-use Rattle.text.specs.Reads.{rows_plan, read_text, short_says, Headed, Announced, Held}
+use Rattle.text.specs.Reads.{head_plan, rows_plan, read_text, short_says, Headed, Announced, Held}
 use Rattle.text.specs.Answers.{Accepted, no_tables, Fits, TooShort, nodes_short, edges_short}
 use Rattle.text.specs.Answers.{refs_short, Read, wrong_text, no_room, took}
 use Rattle.text.proofs.RoundTrip.{refused, not_of_form, write_of_read}
@@ -96,6 +97,10 @@ module _ {s : List ℕ} {at : ℕ} {c : Counts} {n e f : List ℕ} (x : Announce
           rw (sym right.all) (record { nodes = a.held; edges = then_edges_lem.held; refs = d'.held })
 
 -- ---- what is read where all is right
+
+-- the first lines end within the text
+pub head_within : (s : List ℕ) (c : Counts) (at : ℕ) → plan_at head_plan s 0 ≡ got c at → at ≤ length s
+head_within s c at head = let (ls, laid, st) = plan_is head_plan s 0 c at head in stands_within (omega arith) st
 
 -- the tables of the text, with the counts that its first lines tell
 pub record TextRight (s : List ℕ) (c : Counts) (at : ℕ) : Type 0 where

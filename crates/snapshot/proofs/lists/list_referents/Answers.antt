@@ -25,9 +25,9 @@ loop-i-preserved c =
     let here = c.requires.refers Attribute l.i (omega (arith, c.len-i-end.ensures)) in
     elim c.if-in_force.branch [
       | then-in_force w ↦
-          list_put (ref_at c.args.refs.now.numbers) c.args.t l.i l.referents (rw row at (told ∙ w.if-in_force.true))
+          (list_put (ref_at c.args.refs.now.numbers) c.args.t l.i l.referents (rw row at (told ∙ w.if-in_force.true))
           known l.invariant _ (rw row at (w.referents-is ∙ w.put_first.ensures))
-          (omega (arith, here, l.auto.referents))
+          (omega (arith, here, l.auto.referents))).1
       | else-in_force w ↦
           list_skip (ref_at c.args.refs.now.numbers) c.args.t l.i _ _ w.referents-is
           (rw row at (told ∙ w.if-in_force.false)) l.invariant
