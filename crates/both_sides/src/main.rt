@@ -1,6 +1,6 @@
 // Runs the cases of document 01's 'Both sides of the line' that are not starred, and compares what each call answers
 // and leaves with what the document says. Prints a line for each case, and how many are as stated. It takes no heap:
-// its tables are arrays, as long as a case needs.
+// its tables are arrays, as long as a case needs or as tables can be.
 #![tactic(auto)]
 
 ghost use Rattle.std.specs.Prelude.{◌≡◌, true, cond, IfOk, OnErr, ◌↔◌, [], ℕ, ◌*◌, ◌≤◌, ◌<◌, length, get_or, take, replicate};

@@ -73,7 +73,7 @@ fn write_answer(out: &mut [u8], said: Answer) -> usize
 }
 
 // What is printed of the first n bytes of a buffer: one byte more than may be read tells a longer input. The buffer is
-// lent whole, with n beside it, since its length is part of the promise (`Reported`).
+// lent whole, with n beside it: that it has room for that byte is asked here, and nowhere else.
 fn report(buffer: &[u8], n: usize, out: &mut [u8]) -> usize
     requires { (length buffer.now ≡ most_input + 1) × (n ≤ length buffer.now) × (length out.old ≡ most_output) }
     ensures { Reported (take n buffer.now) out.old out.new result }

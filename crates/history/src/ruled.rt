@@ -1,4 +1,4 @@
-// A history of tables that obey the rules: each row of it fits.
+// A history whose rows fit, as those of tables that obey the rules do.
 ghost use Rattle.history.specs.Faults.{history_of};
 ghost use Rattle.history.specs.Ruled.{Ruled};
 
